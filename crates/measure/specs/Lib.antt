@@ -1,0 +1,6 @@
+-- What the contracts of this crate cite.
+pub mod Measure
+pub mod Asks
+pub mod Millimetres
+pub mod Labels
+pub mod Joined

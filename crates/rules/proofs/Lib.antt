@@ -1,0 +1,21 @@
+-- The theorems on the rules.
+pub mod RowRuns
+pub mod SettledSides
+pub mod BoundPlaces
+pub mod PlaceSteps
+pub mod WellTyped
+pub mod ExamplesSample
+pub mod ExamplesEmpty
+pub mod ExamplesPair
+pub mod ExamplesSmall
+pub mod ExamplesHold
+pub mod Chains
+pub mod Lists
+pub mod WrittenBack
+pub mod Depths
+pub mod Wider
+pub mod Sound
+pub mod Kept
+pub mod Entries
+pub mod Fitting
+pub mod RoundTrip

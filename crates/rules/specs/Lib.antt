@@ -1,0 +1,21 @@
+-- The subject's rules as definitions, in the order in which they build on each other; then the statements of the theorems.
+pub mod Refusals
+pub mod Tables
+pub mod Book
+pub mod Garments
+pub mod Sheets
+pub mod Trees
+pub mod AnswerRules
+pub mod Rows
+pub mod Grounds
+pub mod Calls
+pub mod Running
+pub mod Files
+pub mod Law
+pub mod RowTable
+pub mod Settled
+pub mod PlaceLaws
+pub mod Typed
+pub mod RoundTrip
+pub mod Samples
+pub mod Examples
