@@ -1,20 +1,24 @@
 -- A release is read back, and bytes can say it.
 use mathlib.Core.Path.{_≡_, ap, _∙_}
-use mathlib.Core.List.{List, [], _++_, map}
+use mathlib.Core.List.{List, [], _∷_, _++_, map}
 use mathlib.Core.Bool.{false}
 use native.Mathlib.Omega.{arith}
-use Prim.Native.Nat.{_+_, _≤_}
+use Prim.Native.Nat.{_+_, _≤_, _<_}
 use lib.ListN.{length}
+use mir.Val.{SFits}
+use mir.Syntax.{w64}
 use Rattle.std.specs.shelf.Lists.{All}
 use Rattle.std.proofs.shelf.Elements.{all-append}
 use Rattle.std.proofs.shelf.Lists.{length-append, length-map}
 use Rattle.std.specs.declared.result.Result.the-variants.{Ok}
 use Rattle.measure.specs.Measure.{Measure, Lawful}
+use Rattle.pattern_file.specs.declared.entries.Entry.{Entry}
 use Rattle.pattern_file.specs.Contents.{maxEntries}
+use Rattle.pattern_file.proofs.RoundTrip.{reads-back as encoded-back}
 use Rattle.rules.specs.Book.{Book, emptyBook}
 use Rattle.rules.specs.Calls.{Order, withoutSheet, withPass}
-use Rattle.rules.specs.Files.{typeOrder, constructorOrder, placeOrder, nodeOrder, releaseOrders, releaseEntries, readEntries}
-use Rattle.rules.specs.RoundTrip.{rowsWritten, readBack, Files-read-back, Entries-fit}
+use Rattle.rules.specs.Files.{typeOrder, constructorOrder, placeOrder, nodeOrder, releaseOrders, releaseEntries, readEntries, readContents}
+use Rattle.rules.specs.RoundTrip.{rowsWritten, readBack, Files-read-back, Entries-fit, Releases-read-back}
 use Rattle.rules.proofs.Chains.{Chain, chain-append, reads-chain}
 use Rattle.rules.proofs.Wider.{tables}
 use Rattle.rules.proofs.Entries.{joined-append, types-within, constructors-within, places-within, nodes-within}
@@ -63,3 +67,12 @@ files-read-back m b r = let s = reached-sound m b r in (reads-back m b s, entrie
 
 pub entries-fit : Entries-fit
 entries-fit m b lawful r = orders-entries (releaseOrders b) (orders-fit m b (reached-sound m b r) lawful)
+
+numbers-fit : (es : List Entry) → All (λ (e : Entry). (e .tag < 16) × SFits w64 (e .number)) es → All (λ (e : Entry). SFits w64 (e .number)) es
+numbers-fit [] h = tt
+numbers-fit (e ∷ es) h = (h .0 .1, numbers-fit es (h .1))
+
+pub releases-read-back : Releases-read-back
+releases-read-back m b lawful r =
+    let f = files-read-back m b r in
+    ap (readContents m emptyBook) (encoded-back (releaseEntries b) (f .1) (numbers-fit (releaseEntries b) (entries-fit m b lawful r))) ∙ f .0

@@ -14,7 +14,7 @@ use Rattle.pattern_file.specs.Contents.{maxEntries}
 use Rattle.rules.specs.declared.refusal.Refusal.{Refusal}
 use Rattle.rules.specs.Book.{Book, emptyBook}
 use Rattle.rules.specs.Calls.{Call, Outcome, refused, refusalOf, after, withoutSheet, withPass}
-use Rattle.rules.specs.Files.{Read, releaseEntries, readEntries}
+use Rattle.rules.specs.Files.{Read, releaseEntries, fileOf, readEntries, readInto}
 
 -- the workbooks that calls make of an empty one: a call that has a ground is refused on it; nothing is asked of other outcomes
 pub data Reached (m : Measure) : Book → Type 0 where
@@ -39,3 +39,7 @@ Files-read-back =
 abbrev pub Entries-fit : Type 0
 Entries-fit =
     (m : Measure) (b : Book) → Lawful m → Reached m b → All (λ (e : Entry). (e .tag < 16) × SFits w64 (e .number)) (releaseEntries b)
+
+-- so the bytes of a release are read without a fault into an empty workbook over the same kind, and give back the same
+abbrev pub Releases-read-back : Type 0
+Releases-read-back = (m : Measure) (b : Book) → Lawful m → Reached m b → readInto m emptyBook (fileOf b) ≡ readBack b
