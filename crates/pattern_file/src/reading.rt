@@ -117,6 +117,7 @@ impl<'a> Reader<'a> {
     }
 
     // The next call with its entry; nothing at the end. A fault stays, and is handed out again.
+    // Free is only where in memory the part with the put numbers lies: no clause says that it is the file's own.
     pub fn next_call(&mut self) -> Result<Option<PlacedCall<'a>>, FileFault>
         ensures value { λ r. ⌜ handed r ≡ first (rest (now (self .entry))) ⌝ }
         ensures moves { λ _. ⌜ rest (now (self .exit)) ≡ after (rest (now (self .entry))) ⌝ }
