@@ -1,4 +1,4 @@
--- One more question to a host, and a run up to the first yes. Assumes nothing.
+-- One more question to a host, and a run up to the first yes.
 use mathlib.Core.Path.{_≡_, refl, sym, _∙_, ap, subst}
 use mathlib.Core.Bool.{Bool, true, false, cond}
 use mathlib.Core.List.{List, [], _∷_, _++_, map}

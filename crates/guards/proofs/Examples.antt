@@ -1,4 +1,4 @@
--- Small examples that compute. Assumes nothing.
+-- Small examples that compute.
 use mathlib.Core.Path.{_≡_, refl}
 use mathlib.Core.Bool.{true, false}
 use mathlib.Core.List.{List, [], _∷_}

@@ -1,4 +1,4 @@
--- What was found behind a value that an option holds. Assumes nothing.
+-- What was found behind a value that an option holds.
 use mathlib.Core.Path.{_≡_, refl, ap}
 use mathlib.Core.Bool.{Bool, true, false, cond}
 use Prim.Native.Nat.{ℕ}

@@ -1,4 +1,4 @@
--- Listed answers, entry by entry. Assumes nothing.
+-- Listed answers, entry by entry.
 use mathlib.Core.Path.{_≡_, refl, sym, _∙_, ap}
 use mathlib.Core.Bool.{Bool, true, false, cond}
 use mathlib.Core.Logic.{_⊎_, inl, inr, ⊎-elim}

@@ -1,4 +1,4 @@
--- Numbers written one after another into a slice. Assumes nothing.
+-- Numbers written one after another into a slice.
 use mathlib.Core.Path.{_≡_, refl, sym, _∙_, ap}
 use mathlib.Core.Bool.{Bool, true, false, cond}
 use mathlib.Core.List.{List, [], _∷_, _++_}

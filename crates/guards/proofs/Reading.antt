@@ -1,4 +1,4 @@
--- Reading what is written, and what was written where something is read. Assumes nothing.
+-- Reading what is written, and what was written where something is read.
 use mathlib.Core.Path.{_≡_, refl, sym, _∙_, ap, subst}
 use mathlib.Core.Bool.{Bool, true, false, cond}
 use mathlib.Core.List.{List, [], _∷_, _++_}

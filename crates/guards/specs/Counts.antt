@@ -1,4 +1,4 @@
--- What a counting host holds. Assumes nothing.
+-- What a counting host holds.
 use mathlib.Core.Path.{_≡_, refl, sym, ap, _∙_}
 use mathlib.Core.List.{List, [], _∷_, _++_}
 use Prim.Native.Nat.{ℕ, _+_, min}

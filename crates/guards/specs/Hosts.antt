@@ -1,4 +1,4 @@
--- Hosts: what they were asked, and what they hold then. Assumes nothing.
+-- Hosts: what they were asked, and what they hold then.
 use mathlib.Core.Path.{_≡_, refl, _∙_}
 use mathlib.Core.List.{List, [], _∷_, _++_}
 use mathlib.Core.Bool.{Bool}

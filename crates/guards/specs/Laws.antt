@@ -1,4 +1,4 @@
--- What holds of the written form of questions and of listed answers. Assumes nothing.
+-- What holds of the written form of questions and of listed answers.
 use mathlib.Core.Path.{_≡_}
 use mathlib.Core.List.{List, _++_}
 use Prim.Native.Nat.{ℕ}

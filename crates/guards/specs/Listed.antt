@@ -1,4 +1,4 @@
--- Answers that are listed in numbers. Assumes nothing.
+-- Answers that are listed in numbers.
 use mathlib.Core.List.{List, [], _∷_, _++_}
 use mathlib.Core.Bool.{Bool, true, false, cond}
 use Prim.Native.Nat.{ℕ, zero, suc, _-_}

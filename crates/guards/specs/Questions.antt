@@ -1,4 +1,4 @@
--- Questions about places, their written form in numbers, and reading it back. Assumes nothing.
+-- Questions about places, their written form in numbers, and reading it back.
 use mathlib.Core.List.{List, [], _∷_, _++_}
 use mathlib.Core.Bool.{Bool, cond}
 use Prim.Native.Nat.{ℕ, zero, suc, _*_, _≤_}

@@ -1,4 +1,4 @@
--- What a run puts to a host, and what it finds. Assumes nothing.
+-- What a run puts to a host, and what it finds.
 use mathlib.Core.List.{List, [], _∷_}
 use mathlib.Core.Bool.{cond}
 use Prim.Native.Nat.{ℕ, _+_}

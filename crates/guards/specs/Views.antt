@@ -1,4 +1,4 @@
--- What the views of written numbers mean. Assumes nothing.
+-- What the views of written numbers mean.
 use mathlib.Core.List.{List}
 use Prim.Native.Nat.{ℕ}
 use denote.Ref.{RefT, now}

@@ -1,4 +1,4 @@
--- What writing into lent numbers leaves. Assumes nothing.
+-- What writing into lent numbers leaves.
 use mathlib.Core.List.{List, _∷_, _++_, []}
 use mathlib.Core.Bool.{Bool, cond}
 use Prim.Native.Nat.{ℕ}

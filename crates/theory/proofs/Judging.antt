@@ -41,7 +41,7 @@ knowing m d lawful = record {
 module _ (m : Measure) (d : Schema) (know : Knowing m d) where
   -- what is shown of good knowledge, where there are garments
   pub shown-apart : (first second : Run) (k g : Knowledge) (a b : Answer) → inhabited m d 0 ≡ true → Shown m d know k first second g a b → Apart m d first second g a b
-  shown-apart first second k g a b some s = record { witness = know .fitting g some (s .good); answers = s .answers; other = same-refuted a b (s .other) }
+  shown-apart first second k g a b some s = record { good = s .good; witness = know .fitting g some (s .good); answers = s .answers; other = same-refuted a b (s .other) }
 
   module _ (first second : Run) where
     alike-all : explore m d [] first second ≡ alike → SameAnswers m d first second

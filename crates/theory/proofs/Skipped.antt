@@ -46,6 +46,7 @@ module _ (m : Measure) (d : Schema) (know : Knowing m d) (k : Knowledge) (some :
 
     apart-over : (g : Knowledge) (a b : Answer) → Apart m d first second g a b → Apart m d first′ second′ g a b
     apart-over g a b s = record {
+      good = s .good;
       witness = s .witness;
       answers = λ v rule f. (sym (equal-first (worldOf m v rule)) ∙ s .answers v rule f .0, sym (equal-second (worldOf m v rule)) ∙ s .answers v rule f .1);
       other = s .other;

@@ -23,8 +23,10 @@ abbrev pub SameAnswers : Measure → Schema → Run → Run → Type 0
 SameAnswers m d first second =
     (v : Value) (rule : Rule) → OfType m d 0 v → Same (execute first (worldOf m v rule)) (execute second (worldOf m v rule))
 
--- some well-typed garment and rule fit the knowledge, and all that do get these two answers, which are not the same
+-- the knowledge leaves every place a candidate or an atom; some well-typed garment and rule fit it, and all that do get these
+-- two answers, which are not the same
 pub record Apart (m : Measure) (d : Schema) (first second : Run) (k : Knowledge) (a b : Answer) : Type 0 where
+  pub good : Good m d k
   pub witness : (v : Value) × ((rule : Rule) × Fits m d k v rule)
   pub answers : (v : Value) (rule : Rule) → Fits m d k v rule → (execute first (worldOf m v rule) ≡ a) × (execute second (worldOf m v rule) ≡ b)
   pub other : Same a b → ⊥

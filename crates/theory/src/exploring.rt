@@ -1,6 +1,6 @@
 // Exploring two runs by looks is exact, and so is the judge's verdict on them.
 ghost use Rattle.theory.specs.Theorems.{Exploring-exact};
-ghost use Rattle.theory.specs.Judgement.{Judging-exact};
+ghost use Rattle.theory.specs.Judgement.{Judging-exact, Judging-shows};
 ghost use Rattle.theory.specs.Verdicts.{Verdict-exact};
 ghost use Rattle.theory.specs.Quick.{Quick-holds};
 ghost use Rattle.theory.specs.Left.{Looks-fall};
@@ -22,6 +22,13 @@ pub fn verdict_exact() -> u8
 // The same in the words of the rules: the verdict on a sheet and a tree that fit their types.
 pub fn judging_exact() -> u8
     ensures { λ _. ⌜ Judging-exact ⌝ }
+{
+    0
+}
+
+// Where they differ, a well-typed garment and listed answers that show it fit the memory.
+pub fn judging_shows() -> u8
+    ensures { λ _. ⌜ Judging-shows ⌝ }
 {
     0
 }

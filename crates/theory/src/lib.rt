@@ -3,4 +3,5 @@
 pub mod exploring;
 pub mod following;
 pub mod knowledge;
+pub mod memory;
 pub mod runs;
