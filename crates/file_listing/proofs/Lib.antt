@@ -1,1 +1,3 @@
--- No lemmas of its own.
+-- Lemmas of this crate.
+pub mod Joining
+pub mod Lines

@@ -1,5 +1,6 @@
 -- The theorems on the rules.
 pub mod RowRuns
+pub mod FirstAnswer
 pub mod SettledSides
 pub mod BoundPlaces
 pub mod PlaceSteps

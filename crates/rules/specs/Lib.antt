@@ -13,6 +13,7 @@ pub mod Running
 pub mod Files
 pub mod Law
 pub mod RowTable
+pub mod FirstClause
 pub mod Settled
 pub mod PlaceLaws
 pub mod Typed
