@@ -68,8 +68,7 @@ pub trait Kind: Drop {
         ensures of { λ r. ⌜ sortof (now (self .entry)) r ≡ sortof (now (self .entry)) region ⌝ }
         ensures kept { λ r. ⌜ ((n : ℤ) → holds (now (self .entry)) r n ≡ (holds (now (self .entry)) region n && gives wanted (meaning (now (self .entry)) .passes (sortof (now (self .entry)) region) test n))) ⌝ };
 
-    // An atom of the region, or `None` where it has none. Which atom is free: a later version may promise the smallest,
-    // so implementations pick from the low end.
+    // An atom of the region, or `None` where it has none. Which of its atoms is free.
     fn pick(&self, region: &Self::Region) -> Option<i64>
         ensures cases { λ r. ⌜ BySome r ((n : ℤ) → holds (now (self .entry)) (now (region .entry)) n ≡ false) (λ n. holds (now (self .entry)) (now (region .entry)) n ≡ true) ⌝ };
 }

@@ -1,6 +1,7 @@
 -- The worked examples, one by one; what only has to be computed is computed here.
 use mathlib.Core.Path.{refl}
 use Rattle.rules.specs.Examples.{Examples}
+use Rattle.rules.proofs.WellTyped.{alike-by-values}
 use Rattle.rules.proofs.ExamplesSample as sample
 use Rattle.rules.proofs.ExamplesEmpty as empty
 use Rattle.rules.proofs.ExamplesPair as pair
@@ -16,6 +17,7 @@ examples-hold = record {
   mended-alike = sample.mended-alike;
   no-constructor = empty.no-constructor;
   only-itself = empty.only-itself;
+  no-garment = λ m b h. alike-by-values m b (λ v rule typed. absurd (h v typed));
   pair-read = refl;
   next-clause = pair.next-clause;
   never-other-side = pair.never-other-side;
@@ -41,4 +43,12 @@ examples-hold = record {
   types-33 = λ m. refl;
   branch-read = λ m. refl;
   branch-alike = empty.branch-alike;
+  exceeds-limit = refl;
+  equals-limit = refl;
+  not-wrapped = refl;
+  other-guard = refl;
+  one-place = refl;
+  no-atom = refl;
+  list-written = refl;
+  none-written = (refl, refl);
 }

@@ -4,7 +4,7 @@ use mathlib.Core.Bool.{Bool, true, false, not, _||_}
 use Prim.Native.Nat.{ℕ}
 use lib.Dec.{eqb, ltb}
 use lib.IntN.{ℤ}
-use lib.ListN.{length, drop}
+use lib.ListN.{length, take, drop, replicate}
 use Rattle.std.specs.declared.option.Option.{Option}
 use Rattle.measure.specs.Measure.{Measure}
 use Rattle.pattern_file.specs.declared.names.CallName.{CallName}
@@ -47,6 +47,14 @@ pub data Outcome : Type 0 where
   alike : Outcome
   differs : List GarmentEntry → List ℕ → Outcome  -- the garment and the listed answers shown
   released : List ℕ → Outcome  -- the file
+
+-- a judge that wrote this into its memory and returned these lengths has shown what stands in front
+abbrev pub differsIn : List GarmentEntry → ℕ → List ℕ → ℕ → Outcome
+differsIn entries entryCount numbers numberCount = differs (take entryCount entries) (take numberCount numbers)
+
+-- a release that wrote this into its memory and returned this length
+abbrev pub releasedIn : List ℕ → ℕ → Outcome
+releasedIn bytes count = released (take count bytes)
 
 -- ── when a call is refused ──
 
@@ -175,3 +183,40 @@ after b clearTree outcome = ifReturned outcome (withoutTree b) b
 after b (judge w e n) outcome = ifAlike outcome (withPass b true) b
 after b (release n) outcome = withPass b false
 after b withdraw outcome = withPass b false
+
+-- ── what lent memory holds then ──
+
+-- what was written, and then the rest as it was
+abbrev pub over : {A : Type 0} → List A → List A → List A
+over new memory = new ++ drop (length new) memory
+
+-- judge: the work numbers go back all zeros, unless it is refused
+abbrev pub workAfter : Outcome → List ℕ → List ℕ
+workAfter (returned n) memory = over (replicate workNumbers 0) memory
+workAfter (refused r) memory = memory
+workAfter alike memory = over (replicate workNumbers 0) memory
+workAfter (differs es ns) memory = over (replicate workNumbers 0) memory
+workAfter (released bs) memory = over (replicate workNumbers 0) memory
+
+-- judge: the shown garment and answers stand in front
+abbrev pub entriesAfter : Outcome → List GarmentEntry → List GarmentEntry
+entriesAfter (returned n) memory = memory
+entriesAfter (refused r) memory = memory
+entriesAfter alike memory = memory
+entriesAfter (differs es ns) memory = over es memory
+entriesAfter (released bs) memory = memory
+
+abbrev pub numbersAfter : Outcome → List ℕ → List ℕ
+numbersAfter (returned n) memory = memory
+numbersAfter (refused r) memory = memory
+numbersAfter alike memory = memory
+numbersAfter (differs es ns) memory = over ns memory
+numbersAfter (released bs) memory = memory
+
+-- release: the file stands in front
+abbrev pub bytesAfter : Outcome → List ℕ → List ℕ
+bytesAfter (returned n) memory = memory
+bytesAfter (refused r) memory = memory
+bytesAfter alike memory = memory
+bytesAfter (differs es ns) memory = memory
+bytesAfter (released bs) memory = over bs memory

@@ -1,7 +1,7 @@
 -- Worked examples: what the rules say in small cases, each a consequence of the definitions.
 use mathlib.Core.Path.{_≡_}
 use mathlib.Core.List.{List, [], _∷_, _++_}
-use mathlib.Core.Bool.{true, false}
+use mathlib.Core.Bool.{Bool, true, false}
 use Prim.Native.Nat.{ℕ}
 use lib.IntN.{ℤ, pos, negsuc}
 use Rattle.std.specs.Options.{mapped}
@@ -21,9 +21,11 @@ use Rattle.rules.specs.declared.rows.TypeRow.the-variants.{Choice}
 use Rattle.rules.specs.declared.rows.GarmentEntry.{GarmentEntry}
 use Rattle.rules.specs.Refusals.{refusalNumber}
 use Rattle.rules.specs.Book.{Book, emptyBook, schemaOf, fieldsOf, ownerOf}
-use Rattle.rules.specs.Garments.{Value, Values, built, Place, whole, stepsOf, last, garmentValue, wellTyped}
-use Rattle.rules.specs.Sheets.{Pattern, either, gauge, patternsOf, weight, matches, Binding, listOf, field, question, Clause, acts, lost, sheetAnswer}
+use Rattle.rules.specs.Garments.{Value, Values, built, measured, noValues, withValue, OfType, Place, whole, stepsOf, last, garmentValue, wellTyped}
+use Rattle.rules.specs.Sheets.{Pattern, either, gauge, patternsOf, weight, matches, Binding, listOf, field, question, Clause, acts, none, lost, sheetAnswer}
 use Rattle.rules.specs.Trees.{Tree, leaf, ask, placesOf, treeAnswer, Same}
+use Rattle.rules.specs.AnswerRules.{differenceRule}
+use Rattle.rules.specs.Running.{writtenAnswer}
 use Rattle.rules.specs.Grounds.{stepCount}
 use Rattle.rules.specs.Calls.{make, refusalOf}
 use Rattle.rules.specs.Files.{order, readEntries}
@@ -74,6 +76,14 @@ pub record OnlySecond (rule : Rule) : Type 0 where
   pub no-first : rule (question 3 (firstField ∷ [])) ≡ false
   pub yes-second : rule (question 3 (secondField ∷ [])) ≡ true
 
+-- a value of constructor 0 with two lengths
+abbrev pub twoLengths : ℤ → ℤ → Value
+twoLengths a b = built 0 (withValue (measured 0 a) (withValue (measured 0 b) noValues))
+
+-- the difference rule's answer on it to a guard about both fields, where guard 0 has this limit and the others have 0
+abbrev pub differenceSays : ℤ → ℤ → ℤ → ℕ → List Steps → Bool
+differenceSays a b limit guard places = differenceRule (twoLengths a b) (limit ∷ []) (question guard places)
+
 -- ── the examples ──
 
 pub record Examples : Type 0 where
@@ -98,6 +108,8 @@ pub record Examples : Type 0 where
   -- Type 0 only leads to itself, each of its constructors having a field of type 0: alike, with any sheet and any tree.
   pub only-itself : (m : Measure) (b : Book) → nth (b .types) 0 ≡ Some Choice
       → ((c : ℕ) → ownerOf (schemaOf b) c ≡ Some 0 → (i : ℕ) × (nth (fieldsOf (schemaOf b) c) i ≡ Some 0)) → Alike m b
+  -- Wherever type 0 has no value: alike, with any sheet and any tree.
+  pub no-garment : (m : Measure) (b : Book) → ((v : Value) → OfType m (schemaOf b) 0 v → ⊥) → Alike m b
   -- 3. The left side of an alternation binds field 0, the right side field 1, under guard 3. Where the rule says no to
   -- the left's place and yes to the right's, the next clause answers.
   pub pair-read : IsRead millimetres pairSheet 11
@@ -140,3 +152,13 @@ pub record Examples : Type 0 where
   -- 11. A switch without a branch for a constructor that no garment has, a field of it having a type without values: no difference.
   pub branch-read : (m : Measure) → IsRead m missingBranch 9
   pub branch-alike : (m : Measure) → Alike m (bookOf m missingBranch)
+  -- 12. Differences: 10 - 4 exceeds 5, and not 6; the widest difference of signed 64-bit numbers is not wrapped; guard 8, one place, or a place that ends on no atom gets no.
+  pub exceeds-limit : differenceSays (pos 10) (pos 4) (pos 5) 0 (firstField ∷ secondField ∷ []) ≡ true
+  pub equals-limit : differenceSays (pos 10) (pos 4) (pos 6) 0 (firstField ∷ secondField ∷ []) ≡ false
+  pub not-wrapped : differenceSays (pos 9223372036854775807) (negsuc 9223372036854775807) (pos 2147483647) 0 (firstField ∷ secondField ∷ []) ≡ true
+  pub other-guard : differenceSays (pos 10) (pos 4) (pos 5) 8 (firstField ∷ secondField ∷ []) ≡ false
+  pub one-place : differenceSays (pos 10) (pos 4) (pos 5) 0 (firstField ∷ []) ≡ false
+  pub no-atom : differenceSays (pos 10) (pos 4) (pos 5) 0 (firstField ∷ [] ∷ []) ≡ false
+  -- 13. An action's list is written as in a question without the guard; none and lost write nothing.
+  pub list-written : writtenAnswer (acts 7 (secondField ∷ [] ∷ [])) ≡ 2 ∷ 1 ∷ 0 ∷ 1 ∷ 0 ∷ []
+  pub none-written : (writtenAnswer none ≡ []) × (writtenAnswer lost ≡ [])

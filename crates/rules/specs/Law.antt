@@ -1,4 +1,5 @@
--- The law on runs: what any list of calls on an empty workbook answers, for any kind of measure.
+-- The law on runs: what any list of building calls, clears, judges, releases and withdrawals on an empty workbook answers, for any
+-- kind of measure. Where memory is lent, an outcome is what stands in it up to the lengths returned (`differsIn`, `releasedIn`).
 use mathlib.Core.Path.{_≡_}
 use mathlib.Core.List.{List, [], _∷_}
 use mathlib.Core.Bool.{true}

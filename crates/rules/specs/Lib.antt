@@ -9,9 +9,9 @@ pub mod AnswerRules
 pub mod Rows
 pub mod Grounds
 pub mod Calls
-pub mod Running
 pub mod Files
 pub mod Law
+pub mod Running
 pub mod RowTable
 pub mod FirstClause
 pub mod Settled

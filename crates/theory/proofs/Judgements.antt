@@ -18,7 +18,7 @@ use Rattle.theory.specs.Verdicts.{SameAnswers, Apart, VerdictRight}
 use Rattle.theory.specs.ShownAnswers.{shownAnswers}
 use Rattle.theory.specs.ShownGarment.{shownGarment}
 use Rattle.theory.specs.ShownFits.{placesListed, ShownInMemory}
-use Rattle.theory.specs.Judgement.{AnswerAlike, Judgement, Judging-exact, ShownApart, Judging-shows}
+use Rattle.theory.specs.Judgement.{judged, AnswerAlike, Judgement, Judging-exact, ShownApart, Judging-shows}
 use Rattle.theory.proofs.TreeAnswers.{runs-answer}
 use Rattle.theory.proofs.ProperRuns.{runs-proper}
 use Rattle.theory.proofs.Verdicts.{alike≢differs}
@@ -74,11 +74,16 @@ explored : (i : Bool) (v : Verdict) (k : Knowledge) (a b : Answer) → cond i v 
 explored true v k a b e = (refl, e)
 explored false v k a b e = absurd (alike≢differs k a b e)
 
+-- what a verdict that they differ has found of the two runs
+pub judged-apart : (m : Measure) (d : Schema) (ks : List Clause) (t : Tree) (k : Knowledge) (a b : Answer) → Lawful m → SheetFits d ks → TreeFits d t → judged m d ks t ≡ differs k a b
+    → Apart m d (treeRun t) (sheetRun ks) k a b
+judged-apart m d ks t k a b lawful fits grown e =
+    verdict-exact m d (treeRun t) (sheetRun ks) lawful .differs-right k a b e (runs-proper .trees m d [] t grown) (runs-proper .sheets m d [] ks fits)
+
 pub judging-shows : Judging-shows
 judging-shows m d ks t table k a b pick usual lawful fits grown limits e free =
     let found = explored (inhabited m d 0) (explore m d [] (treeRun t) (sheetRun ks)) k a b e in
-    let apart : Apart m d (treeRun t) (sheetRun ks) k a b =
-    verdict-exact m d (treeRun t) (sheetRun ks) lawful .differs-right k a b e (runs-proper .trees m d [] t grown) (runs-proper .sheets m d [] ks fits) in
+    let apart : Apart m d (treeRun t) (sheetRun ks) k a b = judged-apart m d ks t k a b lawful fits grown e in
     let memory : ShownInMemory m d k (shownGarment m d k pick usual (placesListed ks table)) (shownAnswers k) =
     shown-fits-memory .shown m d ks t table k a b pick usual limits (found .0) (found .1) (apart .good) free in
     let told = judging-exact m d ks t lawful fits grown .differs-shown k a b e in

@@ -42,6 +42,7 @@ pub mod GarmentShown
 pub mod Picking
 pub mod ShownTogether
 pub mod Judgements
+pub mod LawfulVerdicts
 pub mod LooksLeft
 pub mod Resumed
 pub mod Branched

@@ -1,4 +1,4 @@
--- The judge's verdict on a sheet and a tree, in the words of the rules.
+-- The judge's verdict on a sheet and a tree, by the answers that rules define for values.
 use mathlib.Core.Path.{_≡_}
 use mathlib.Core.List.{List}
 use mathlib.Core.Bool.{true}

@@ -20,7 +20,7 @@ left weight known (look l y n) =
 abbrev pub unknown : Known
 unknown l = None
 
--- each look that is taken falls out of what is left of a run, whatever looks weigh: with weight 1 the search ends, with the weights of rows the rows suffice
+-- each look that is taken falls out of what is left of a run, whatever looks weigh: with weight 1 the search ends, and with the weights of rows so does a budget of rows
 pub record Looks-fall : Type 0 where
   -- where a run stops at a look, an answer that is told takes the look's weight off
   pub falls : (m : Measure) (d : Schema) (k j : Knowledge) (weight : Look → ℕ) (r : Run) (l : Look) (y n : Run) (b : Bool)

@@ -13,6 +13,7 @@ pub mod ShownAnswers
 pub mod ShownGarment
 pub mod ShownFits
 pub mod Judgement
+pub mod LawfulVerdicts
 pub mod Settle
 pub mod Left
 pub mod Quick

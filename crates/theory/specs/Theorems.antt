@@ -40,7 +40,7 @@ Tells-right = (m : Measure) (d : Schema) (k : Knowledge) (v : Value) (rule : Rul
 abbrev pub Good-fits : Type 0
 Good-fits = (m : Measure) (d : Schema) (k : Knowledge) → Lawful m → inhabited m d 0 ≡ true → Good m d k → (v : Value) × ((rule : Rule) × Fits m d k v rule)
 
--- an open look, learnt either way, splits just those that fit, and leaves both parts with a garment; knowledge only grows
+-- an open look, learnt either way, splits just those that fit, and leaves both parts good (so with a garment, where type 0 has one); knowledge only grows
 pub record Learning-splits : Type 0 where
   pub apart : (m : Measure) (d : Schema) (k : Knowledge) (v : Value) (rule : Rule) (l : Look) (b : Bool)
       → Fits m d (learn k l b) v rule → Fits m d k v rule × (worldOf m v rule l ≡ b)

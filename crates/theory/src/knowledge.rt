@@ -15,7 +15,7 @@ pub fn tells_right() -> u8
     0
 }
 
-// Knowing nothing, every well-typed garment and every rule fit, and every place is left a candidate or an atom.
+// Knowing nothing, every well-typed garment and every rule fit, and every place of an inhabited type is left a candidate or an atom.
 pub fn start_fits_all() -> u8
     ensures { λ _. ⌜ Start-fits-all ⌝ }
 {
@@ -29,7 +29,7 @@ pub fn learning_splits() -> u8
     0
 }
 
-// Good knowledge has a garment and a rule that fit it.
+// Where type 0 has values, good knowledge has a garment and a rule that fit it.
 pub fn good_fits() -> u8
     ensures { λ _. ⌜ Good-fits ⌝ }
 {
