@@ -10,24 +10,19 @@ use Rattle.std.specs.declared.option.Option.the-variants.{Some, None}
 use Rattle.std.proofs.shelf.Tests.{true≢false, false≢true, and-parts, and-from, not-true, not-from-false}
 use Rattle.theory.specs.Inhabited.{orAlso, firstBelow}
 use Rattle.theory.specs.Knowledge.{noneBelow}
-
-pub none-some : {A : Type 0} (a : A) → _≡_ {A = Option A} None (Some a) → ⊥
-none-some a e = let z : _≡_ {A = ℕ} 0 1 = cc in omega arith
-
-pub some-same : {A : Type 0} (a b : A) → _≡_ {A = Option A} (Some a) (Some b) → a ≡ b
-some-same a b e = cc
+use Rattle.theory.proofs.Facts.{none≢some, some-same}
 
 -- ── the first ──
 
 pub first-passes : (n : ℕ) (test : ℕ → Bool) (c : ℕ) → firstBelow n test ≡ Some c → (c < n) × (test c ≡ true)
-first-passes zero test c e = absurd (none-some c e)
+first-passes zero test c e = absurd (none≢some c e)
 first-passes (suc n) test c e = go (firstBelow n test) (test n) refl refl e (first-passes n test c)
   where
     go : (o : Option ℕ) (b : Bool) → firstBelow n test ≡ o → test n ≡ b → orAlso o b n ≡ Some c
         → (firstBelow n test ≡ Some c → (c < n) × (test c ≡ true)) → (c < suc n) × (test c ≡ true)
     go (Some k) b eo eb h rest = let r = rest (eo ∙ h) in let l : c < n = r .0 in (omega arith, r .1)
     go None true eo eb h rest = let same : n ≡ c = some-same n c h in (omega arith, subst (λ x. test x ≡ true) same eb)
-    go None false eo eb h rest = absurd (none-some c h)
+    go None false eo eb h rest = absurd (none≢some c h)
 
 pub first-none : (n : ℕ) (test : ℕ → Bool) → firstBelow n test ≡ None → (c : ℕ) → c < n → test c ≡ true → ⊥
 first-none zero test e c l h = not-suc-le-zero l
@@ -35,8 +30,8 @@ first-none (suc n) test e c l h = go (firstBelow n test) (test n) refl refl e (�
   where
     go : (o : Option ℕ) (b : Bool) → firstBelow n test ≡ o → test n ≡ b → orAlso o b n ≡ None
         → (firstBelow n test ≡ None → c < n → ⊥) → ⊥
-    go (Some k) b eo eb f rest = none-some k (sym f)
-    go None true eo eb f rest = none-some n (sym f)
+    go (Some k) b eo eb f rest = none≢some k (sym f)
+    go None true eo eb f rest = none≢some n (sym f)
     go None false eo eb f rest = step (ℕ-discrete c n)
       where
         step : Dec (c ≡ n) → ⊥
@@ -113,3 +108,7 @@ count-none n test h c l e =
     let never : ℕ → Bool = λ k. false in
     let z : count n never < count n test = count-less n never test (λ k f. absurd (false≢true f)) c l refl e in
     omega arith
+
+-- one number alone
+pub count-here : (n : ℕ) (test : ℕ → Bool) (k : ℕ) → k ≤ count n test → test n ≡ true → k + 1 ≤ count (suc n) test
+count-here n test k h e = let here : one (test n) ≡ 1 = ap one e in omega arith

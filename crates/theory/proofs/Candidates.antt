@@ -16,8 +16,9 @@ use Rattle.rules.specs.Book.{Schema, fieldsOf, ownerOf, isChoice, sortIn, sortO
 use Rattle.rules.specs.Garments.{Place, placeType, isSomeNumber}
 use Rattle.theory.specs.Inhabited.{allOf, inhabited}
 use Rattle.theory.specs.Knowledge.{Knowledge, headAgreesAll, buildsType, candidate, noneBelow, only}
-use Rattle.theory.proofs.Below.{none-some, some-same, none-passes, none-from, some-passes}
+use Rattle.theory.proofs.Below.{none-passes, none-from, some-passes}
 use Rattle.theory.proofs.Making.{choice-row, number-in, in-number, owner-below}
+use Rattle.theory.proofs.Facts.{none≢some, some-same}
 
 -- ── answers that agree ──
 
@@ -40,8 +41,8 @@ pub sort-at : (d : Schema) (p : Place) (t s : ℕ) → placeType d p ≡ Some t 
 sort-at d p t s e row = ap (λ o. andThen o (sortOf d)) e ∙ ap sortIn row
 
 pub row-of-sort : (o : Option TypeRow) (s : ℕ) → sortIn o ≡ Some s → o ≡ Some (Measured s)
-row-of-sort None s e = absurd (none-some s e)
-row-of-sort (Some Choice) s e = absurd (none-some s e)
+row-of-sort None s e = absurd (none≢some s e)
+row-of-sort (Some Choice) s e = absurd (none≢some s e)
 row-of-sort (Some (Measured r)) s e = ap (λ x. Some (Measured x)) (some-same r s e)
 
 module _ (m : Measure) (d : Schema) (k : Knowledge) (p : Place) where

@@ -23,7 +23,7 @@ use Rattle.theory.specs.Inhabited.{firstBelow, makes, inhabitedBy, inhabitedWi
 use Rattle.theory.specs.ShownGarment.{builtEntry, measuredEntry, Stock, stockedWith, stockMeasured, measuredStock, stockMade, stockOf, defaults, FourFields}
 use Rattle.theory.proofs.EntryLists.{number-is, is-choice, nth-inside, Typed, typed-stays, typed-new, fit-push}
 use Rattle.theory.proofs.EntryTypes.{built-fits, measured-fits}
-use Rattle.theory.proofs.FoundBelow.{found-passes, count, count-all, count-grows, count-here}
+use Rattle.theory.proofs.Below.{first-passes, count, count-most, count-less, count-here}
 
 -- entries that fit, with a default of each type that P holds of
 pub record StockFits (m : Measure) (d : Schema) (P : ℕ → Type 0) (st : Stock) : Type 0 where
@@ -102,7 +102,7 @@ module _ (m : Measure) (d : Schema) where
 
   taken-made : (n : ℕ) (cs : List ℕ) → ((bs : List ℕ) → Made bs → Made (closing m d n bs)) → Made cs → (o : Option ℕ) → firstBelow (length (d .constructors)) (fresh m d cs) ≡ o → Made (takeIn cs o (λ c. closing m d n (c ∷ cs)))
   taken-made n cs k h None e = h
-  taken-made n cs k h (Some c) e = k (c ∷ cs) (fresh-made cs c (found-passes (length (d .constructors)) (fresh m d cs) c e) h)
+  taken-made n cs k h (Some c) e = k (c ∷ cs) (fresh-made cs c (first-passes (length (d .constructors)) (fresh m d cs) c e .1) h)
 
   closing-made : (n : ℕ) (cs : List ℕ) → Made cs → Made (closing m d n cs)
   closing-made zero cs h = h
@@ -169,9 +169,9 @@ module _ (m : Measure) (d : Schema) where
         let before : inhabitedWith m d cs t ≡ false = ap (inhabitedBy m (makes d cs t)) (h .0 .2) ∙ h .0 .3 in
         let now : inhabitedWith m d (c ∷ cs) t ≡ true =
         ap (inhabitedBy m (makes d (c ∷ cs) t)) (h .0 .2) ∙ or-left (isSomeNumber (ownerOf d c) t) (makes d cs t) (number-is (ownerOf d c) t (h .0 .1)) in
-        let grown = count-grows (length (d .types)) (inhabitedWith m d cs) (inhabitedWith m d (c ∷ cs)) (after-it c cs) t (nth-inside (d .types) t Choice (h .0 .2)) before now in
+        let grown = count-less (length (d .types)) (inhabitedWith m d cs) (inhabitedWith m d (c ∷ cs)) (after-it c cs) t (nth-inside (d .types) t Choice (h .0 .2)) before now in
         subst (λ o. length (stockMade d c o st .entries) ≤ count (length (d .types)) (inhabitedWith m d (c ∷ cs))) (sym (h .0 .1))
         (omega (arith, length-append (st .entries) (e ∷ []), stock-few cs (h .1)))
 
     pub defaults-few : length (defaults m d usual .entries) ≤ length (d .types)
-    defaults-few = omega (arith, stock-few (makers m d) (closing-made (length (d .constructors)) [] tt), count-all (length (d .types)) (inhabitedWith m d (makers m d)))
+    defaults-few = omega (arith, stock-few (makers m d) (closing-made (length (d .constructors)) [] tt), count-most (length (d .types)) (inhabitedWith m d (makers m d)))

@@ -18,12 +18,7 @@ use Rattle.rules.specs.Tables.{unfolded}
 use Rattle.rules.specs.Book.{Schema, isChoice}
 use Rattle.rules.specs.Garments.{Value, built, noValues, entryValue, entryValues, last, orNothing, garmentValue, isSomeNumber, allZero, typeNumberIn, entryFits, entriesFit}
 use Rattle.theory.specs.ShownGarment.{fourOf}
-
-pub some-same : {A : Type 0} (a b : A) → Some a ≡ Some b → a ≡ b
-some-same a b e = cc
-
-pub none-some : {A : Type 0} (a : A) → None ≡ Some a → ⊥
-none-some a e = let z : _≡_ {A = ℕ} 0 1 = cc in omega arith
+use Rattle.theory.proofs.Facts.{none≢some}
 
 pub is-number : (o : Option ℕ) (n : ℕ) → isSomeNumber o n ≡ true → o ≡ Some n
 is-number None n e = absurd (false≢true e)
@@ -63,7 +58,7 @@ nth-new [] x = refl
 nth-new (y ∷ xs) x = nth-new xs x
 
 pub nth-inside : {A : Type 0} (xs : List A) (n : ℕ) (x : A) → nth xs n ≡ Some x → n < length xs
-nth-inside [] n x e = absurd (none-some x e)
+nth-inside [] n x e = absurd (none≢some x e)
 nth-inside (y ∷ xs) zero x e = omega arith
 nth-inside (y ∷ xs) (suc n) x e = omega (arith, nth-inside xs n x e)
 

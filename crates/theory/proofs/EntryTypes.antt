@@ -22,7 +22,8 @@ use Rattle.rules.specs.Tables.{unfolded, natural}
 use Rattle.rules.specs.Book.{Schema, fieldsOf, ownerOf, sortOf, sortIn, isChoice}
 use Rattle.rules.specs.Garments.{Value, built, measured, noValues, OfType, OfTypes, children, measuredBy, entryValue, entryValues, isSomeNumber, allZero, typeNumberIn, childrenFit, builtFits, isAtom, measuredFits, entryFits, entriesFit}
 use Rattle.theory.specs.ShownGarment.{fourOf, builtEntry, measuredEntry}
-use Rattle.theory.proofs.EntryLists.{some-same, none-some, is-number, number-is, is-choice, nth-left, nth-new, four-front, four-rest, valueAt}
+use Rattle.theory.proofs.EntryLists.{is-number, number-is, is-choice, nth-left, nth-new, four-front, four-rest, valueAt}
+use Rattle.theory.proofs.Facts.{none≢some, some-same}
 
 module _ (m : Measure) (d : Schema) where
   -- every entry has a value of its type
@@ -72,7 +73,7 @@ module _ (m : Measure) (d : Schema) where
         subst (λ (x : Value). OfType m d t x) (sym (getD-at vs v [] (built 0 noValues) n (omega (arith, h .0)))) (subst (λ u. OfType m d u v) ty k))
         (λ rest. ⊎-elim
         (λ l. subst (λ (x : Value). OfType m d t x) (sym (getD-append-left vs (v ∷ []) (built 0 noValues) n (omega (arith, h .0)))) (h .1 n t (sym (ap typeNumberIn (nth-left es (e ∷ []) n l)) ∙ q)))
-        (λ g. absurd (none-some t (sym (ap typeNumberIn (nth-past (es ++ e ∷ []) n (omega (arith, length-append es (e ∷ []))))) ∙ q))) rest)
+        (λ g. absurd (none≢some t (sym (ap typeNumberIn (nth-past (es ++ e ∷ []) n (omega (arith, length-append es (e ∷ []))))) ∙ q))) rest)
         (cases-order n (length es)),
   )
 
@@ -84,7 +85,7 @@ module _ (m : Measure) (d : Schema) where
       (all-typed es (before ++ e ∷ []) (vs ++ entryValue d vs e ∷ []) (push-typed before vs e (entryValue d vs e) h (entry-typed before vs h e (two .0))) (two .1))
 
   pub value-typed : (es : List GarmentEntry) → entriesFit m d [] es ≡ true → (n t : ℕ) → typeNumberIn (nth es n) ≡ Some t → OfType m d t (valueAt d es n)
-  value-typed es f n t e = all-typed es [] [] (refl, λ i u q. absurd (none-some u q)) f .1 n t e
+  value-typed es f n t e = all-typed es [] [] (refl, λ i u q. absurd (none≢some u q)) f .1 n t e
 
   -- ── entries that fit ──
 

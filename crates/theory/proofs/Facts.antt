@@ -1,6 +1,6 @@
--- Small facts on tests, types and options that the lemmas on runs share.
+-- Small facts on tests, types and options that many lemmas share.
 use mathlib.Core.Path.{_≡_, refl, subst}
-use mathlib.Core.Bool.{Bool, true, false, cond, _&&_, false≢true}
+use mathlib.Core.Bool.{Bool, true, false, cond, _&&_}
 use Prim.Native.Nat.{ℕ}
 use Rattle.std.specs.declared.option.Option.{Option}
 use Rattle.std.specs.declared.option.Option.the-variants.{Some, None}
@@ -10,14 +10,6 @@ use Rattle.rules.specs.declared.rows.TypeRow.the-variants.{Choice, Measured}
 pub cond-and : {A : Type 0} (a b : Bool) (x y : A) → cond a (cond b x y) y ≡ cond (a && b) x y
 cond-and true b x y = refl
 cond-and false b x y = refl
-
-pub and-split : (a b : Bool) → (a && b) ≡ true → (a ≡ true) × (b ≡ true)
-and-split true b e = (refl, e)
-and-split false b e = absurd (false≢true e)
-
-pub and-join : (a b : Bool) → a ≡ true → b ≡ true → (a && b) ≡ true
-and-join true b e f = f
-and-join false b e f = absurd (false≢true e)
 
 abbrev IsNone : {A : Type 0} → Option A → Type 0
 IsNone None = Unit {0}

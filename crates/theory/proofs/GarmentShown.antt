@@ -28,12 +28,14 @@ use Rattle.theory.specs.Inhabited.{allOf, inhabited}
 use Rattle.theory.specs.Knowledge.{Fact, Knowledge, Holds, samePlace, headAgrees, headAgreesAll, candidate, noneBelow, only, reached, atomAgrees, atomAgreesAll, allowed, Askable, AllAskable, Heard, AllHeard, Good}
 use Rattle.theory.specs.Interned.{among, looksAmong, knownAmong, Interned}
 use Rattle.theory.specs.ShownGarment.{Stock, ShownSoFar, defaults, shownPlaces, shownGarment, FourFields, Picks, Hears, GarmentFits, Garment-shown}
-use Rattle.theory.proofs.EntryLists.{some-same, none-some, number-is, nth-new, last-push, valueAt, garment-new}
+use Rattle.theory.proofs.EntryLists.{number-is, nth-new, last-push, valueAt, garment-new}
 use Rattle.theory.proofs.EntryTypes.{value-typed}
 use Rattle.theory.proofs.DefaultEntries.{defaults-fit, defaults-few}
 use Rattle.theory.proofs.PlaceEntries.{PlacesFit}
 use Rattle.theory.proofs.PlacesShown.{candidate-parts, owner-inside, first-shown, places-few}
-use Rattle.theory.proofs.SamePlaces.{same-self, interned-none, interned-grows}
+use Rattle.theory.proofs.SamePlaces.{interned-none, interned-grows}
+use Rattle.theory.proofs.Facts.{none≢some, some-same}
+use Rattle.theory.proofs.Parts.{place-same}
 
 -- ── facts of a list ──
 
@@ -58,7 +60,7 @@ gives-same true x e = e
 gives-same false x e = not-true x e
 
 here-gives : (p : Place) (b x : Bool) → (not (samePlace p p) || gives b x) ≡ true → x ≡ b
-here-gives p b x e = gives-same b x (sym (ap (λ y. y || gives b x) (not-from-true (samePlace p p) (same-self p))) ∙ e)
+here-gives p b x e = gives-same b x (sym (ap (λ y. y || gives b x) (not-from-true (samePlace p p) (place-same p))) ∙ e)
 
 -- ── the only candidate ──
 
@@ -75,7 +77,7 @@ only-one m d k p t c e r o h =
     eqb-true e c (not-false (eqb e c) (sym (ap (λ z. z && not (eqb e c)) h) ∙ never))
 
 all-of-at : (passing : ℕ → Bool) (ts : List ℕ) (i t : ℕ) → allOf passing ts ≡ true → nth ts i ≡ Some t → passing t ≡ true
-all-of-at passing [] i t e h = absurd (none-some t h)
+all-of-at passing [] i t e h = absurd (none≢some t h)
 all-of-at passing (u ∷ ts) zero t e h = subst (λ x. passing x ≡ true) (some-same u t h) (and-parts (passing u) (allOf passing ts) e .0)
 all-of-at passing (u ∷ ts) (suc i) t e h = all-of-at passing ts i t (and-parts (passing u) (allOf passing ts) e .1) h
 
@@ -143,8 +145,8 @@ module _ (m : Measure) (d : Schema) (k : Knowledge) (ps : List Place) (pick : Pl
   module _ (allowed-there : (p : Place) (t s : ℕ) → among (whole ∷ ps) p ≡ true → placeType d p ≡ Some t → inhabited m d t ≡ true → nth (d .types) t ≡ Some (Measured s) → allowed m k p s (pick p s) ≡ true)
       (rule : Rule) (hears : Hears k rule) where
     sort-row : (t s : ℕ) (o : Option TypeRow) → nth (d .types) t ≡ o → sortIn o ≡ Some s → nth (d .types) t ≡ Some (Measured s)
-    sort-row t s None q e = absurd (none-some s e)
-    sort-row t s (Some Choice) q e = absurd (none-some s e)
+    sort-row t s None q e = absurd (none≢some s e)
+    sort-row t s (Some Choice) q e = absurd (none≢some s e)
     sort-row t s (Some (Measured r)) q e = q ∙ ap (λ x. Some (Measured x)) (some-same r s e)
 
     look-holds : (l : Look) (b : Bool) → In (record { asked = l; answer = b }) k → Askable m d k l → looksAmong (whole ∷ ps) l ≡ true → Heard k l b → worldOf m v rule l ≡ b

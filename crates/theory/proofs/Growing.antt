@@ -24,11 +24,11 @@ use Rattle.theory.specs.Runs.{Look, isBuilt, passes, says, worldOf}
 use Rattle.theory.specs.Inhabited.{makes, inhabitedBy, makers, inhabited}
 use Rattle.theory.specs.Knowledge.{Knowledge, Holds, samePlace, headAgrees, headAgreesAll, candidate, reached, atomAgrees, atomAgreesAll, allowed, heard, Askable, AllAskable, Heard, AllHeard, Good}
 use Rattle.theory.specs.Theorems.{Good-fits}
-use Rattle.theory.proofs.Below.{none-some, some-same}
-use Rattle.theory.proofs.Parts.{place-same, values-for}
+use Rattle.theory.proofs.Parts.{values-for, place-same}
 use Rattle.theory.proofs.Inhabiting.{all-at, type-filled}
 use Rattle.theory.proofs.Candidates.{agrees-here, same-given, row-of-sort, is-candidate}
 use Rattle.theory.proofs.Standing.{steps, choice-measured, Stood, Candid, stands-reached}
+use Rattle.theory.proofs.Facts.{none≢some, some-same}
 
 -- ── how deep facts go ──
 
@@ -73,13 +73,13 @@ module _ (m : Measure) (d : Schema) (k : Knowledge) where
 
   -- so is each part, down to the steps that are left
   grown-below : (r : ℕ) (p : Place) (s : Step) (o : Option Value) (x : Value) → ((y : Value) → o ≡ Some y → Grown (suc r) p y) → stepInto s o ≡ Some x → Grown r (below p s) x
-  grown-below r p s None x h e = absurd (none-some x e)
-  grown-below r p s (Some (measured t a)) x h e = absurd (none-some x e)
+  grown-below r p s None x h e = absurd (none≢some x e)
+  grown-below r p s (Some (measured t a)) x h e = absurd (none≢some x e)
   grown-below r p s (Some (built c us)) x h e = go (eqb c (s .constructor)) refl e
     where
       go : (z : Bool) → eqb c (s .constructor) ≡ z → cond z (fieldAt us (s .field)) None ≡ Some x → Grown r (below p s) x
       go true f g = subst (λ y. Grown r (field p y (s .field)) x) (eqb-true c (s .constructor) f) (h (built c us) refl .1 (s .field) x g)
-      go false f g = absurd (none-some x g)
+      go false f g = absurd (none≢some x g)
 
   grown-at : (n : ℕ) (v : Value) → Grown n whole v → (p : Place) (r : ℕ) → r + steps p ≡ n → (x : Value) → partAt v p ≡ Some x → Grown r p x
   grown-at n v g whole r e x h =

@@ -15,14 +15,14 @@ use Rattle.rules.specs.Book.{Schema, fieldsOf, ownerOf}
 use Rattle.rules.specs.Garments.{Value, Values, built, measured, noValues, withValue, isSomeNumber, OfType, OfTypes}
 use Rattle.theory.specs.Inhabited.{makes, inhabitedBy, inhabitedWith, allOf, makers, inhabited}
 use Rattle.theory.specs.Theorems.{Inhabited-exactly}
-use Rattle.theory.proofs.Below.{none-some, some-same}
 use Rattle.theory.proofs.Atoms.{any-from, any-to}
 use Rattle.theory.proofs.Making.{number-in, Made, makers-made, inhabited-choice}
 use Rattle.theory.proofs.Parts.{values-for}
+use Rattle.theory.proofs.Facts.{none≢some, some-same}
 
 -- each type of a list passes that all pass
 pub all-at : (passing : ℕ → Bool) (ts : List ℕ) → allOf passing ts ≡ true → (i t : ℕ) → nth ts i ≡ Some t → passing t ≡ true
-all-at passing [] h i t e = absurd (none-some t e)
+all-at passing [] h i t e = absurd (none≢some t e)
 all-at passing (u ∷ ts) h zero t e = subst (λ x. passing x ≡ true) (some-same u t e) (and-parts (passing u) (allOf passing ts) h .0)
 all-at passing (u ∷ ts) h (suc i) t e = all-at passing ts (and-parts (passing u) (allOf passing ts) h .1) i t e
 

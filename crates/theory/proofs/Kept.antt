@@ -2,6 +2,7 @@
 use mathlib.Core.Path.{_≡_, refl, ap}
 use mathlib.Core.Bool.{Bool, true, false, false≢true}
 use Prim.Native.Nat.{ℕ}
+use Rattle.std.proofs.shelf.Tests.{and-parts, and-from}
 use Rattle.std.specs.Options.{isSome}
 use Rattle.std.specs.shelf.Maps.{nth}
 use Rattle.std.specs.declared.option.Option.the-variants.{Some}
@@ -12,7 +13,7 @@ use Rattle.rules.specs.Sheets.{field}
 use Rattle.theory.specs.Runs.{Look, isBuilt, passes, says, Run, done, look}
 use Rattle.theory.specs.Knowledge.{Knowledge, candidate, only, reached, tells, tellsHead, ifReached, Askable}
 use Rattle.theory.specs.Explore.{More, Proper}
-use Rattle.theory.proofs.Facts.{and-split, and-join, none≢some, some-same}
+use Rattle.theory.proofs.Facts.{none≢some, some-same}
 
 -- a yes is told just where the place is reached and the constructor is the only one
 yes-parts : (r o c : Bool) → ifReached r (tellsHead o c) ≡ Some true → (r ≡ true) × (o ≡ true)
@@ -44,15 +45,15 @@ module _ (m : Measure) (d : Schema) where
   pub reached-kept : (k j : Knowledge) (p : Place) → More m d k j → reached m d k p ≡ true → reached m d j p ≡ true
   reached-kept k j whole s h = refl
   reached-kept k j (below p q) s h =
-      let one = and-split (reached m d k p) _ h in
-      let two = and-split (only m d k p (q .constructor)) _ (one .1) in
+      let one = and-parts (reached m d k p) _ h in
+      let two = and-parts (only m d k p (q .constructor)) _ (one .1) in
       let told = s (isBuilt p (q .constructor)) true (yes-from (reached m d k p) (only m d k p (q .constructor)) (candidate m d k p (q .constructor)) (one .0) (two .0)) in
       let parts = yes-parts (reached m d j p) (only m d j p (q .constructor)) (candidate m d j p (q .constructor)) told in
-      and-join (reached m d j p) _ (parts .0) (and-join (only m d j p (q .constructor)) _ (parts .1) (two .1))
+      and-from (reached m d j p) _ (parts .0) (and-from (only m d j p (q .constructor)) _ (parts .1) (two .1))
 
   -- a field of the only constructor is reached
   pub field-reached : (k : Knowledge) (p : Place) (c i t : ℕ) → reached m d k p ≡ true → only m d k p c ≡ true → nth (fieldsOf d c) i ≡ Some t → reached m d k (field p c i) ≡ true
-  field-reached k p c i t h o e = and-join (reached m d k p) _ h (and-join (only m d k p c) _ o (ap isSome e))
+  field-reached k p c i t h o e = and-from (reached m d k p) _ h (and-from (only m d k p c) _ o (ap isSome e))
 
   pub askable-kept : (k j : Knowledge) (l : Look) → More m d k j → Askable m d k l → Askable m d j l
   askable-kept k j (isBuilt p c) s h = (reached-kept k j p s (h .0), h .1)

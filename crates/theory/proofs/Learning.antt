@@ -17,15 +17,15 @@ use Rattle.theory.specs.Inhabited.{anyAtom}
 use Rattle.theory.specs.Knowledge.{Knowledge, learn, samePlace, headAgrees, candidate, noneBelow, only, reached, atomAgrees, atomAgreesAll, allowed, heard, decided, tellsHead, tellsTest, ifReached, tells, Askable, Heard, Good}
 use Rattle.theory.specs.Explore.{More}
 use Rattle.theory.specs.Theorems.{Learning-splits}
-use Rattle.theory.proofs.Below.{none-some}
 use Rattle.theory.proofs.Atoms.{any-from, any-to, any-less, any-none}
-use Rattle.theory.proofs.Parts.{place-same}
 use Rattle.theory.proofs.Candidates.{agrees-here, sort-at, only-from}
 use Rattle.theory.proofs.Learnt.{allowed-learnt, candidate-learnt, open-head, passing, failing, tells-test, open-test, still-candidate, still-atom, allowed-before, only-stays, reached-stays, heard-stays, askable-stays, all-askable-stay, all-heard-stay}
+use Rattle.theory.proofs.Facts.{none≢some}
+use Rattle.theory.proofs.Parts.{place-same}
 
 -- knowledge tells by less room, where room is left
 told-still : (y n y′ n′ b : Bool) → decided y n ≡ Some b → (y′ ≡ true → y ≡ true) → (n′ ≡ true → n ≡ true) → (y ≡ true → n ≡ false → y′ ≡ true) → decided y′ n′ ≡ Some b
-told-still true true y′ n′ b e f g h = absurd (none-some b e)
+told-still true true y′ n′ b e f g h = absurd (none≢some b e)
 told-still true false true true b e f g h = absurd (false≢true (g refl))
 told-still true false true false b e f g h = e
 told-still true false false n′ b e f g h = absurd (false≢true (h refl refl))
@@ -111,9 +111,9 @@ module _ (m : Measure) (d : Schema) (k : Knowledge) where
   module _ (law : Lawful m) (l : Look) (b : Bool) (ask : Askable m d k l) (untold : tells m d k l ≡ None) where
     head-grows : (p : Place) (c : ℕ) (x : Bool) (r o h : Bool) → reached m d k p ≡ r → only m d k p c ≡ o → candidate m d k p c ≡ h → ifReached r (tellsHead o h) ≡ Some x
         → tells m d (learn k l b) (isBuilt p c) ≡ Some x
-    head-grows p c x false o h er eo eh e = absurd (none-some x e)
+    head-grows p c x false o h er eo eh e = absurd (none≢some x e)
     head-grows p c x true true h er eo eh e = tells-yes m d (learn k l b) p c (reached-stays m d k l b ask untold p er) (only-stays m d k l b ask untold p c eo) ∙ e
-    head-grows p c x true false true er eo eh e = absurd (none-some x e)
+    head-grows p c x true false true er eo eh e = absurd (none≢some x e)
     head-grows p c x true false false er eo eh e =
         tells-no m d (learn k l b) p c (reached-stays m d k l b ask untold p er) (candidate-learnt m d k l b p c ∙ and-right (headAgrees p c l b) (candidate m d k p c) eh) ∙ e
 
@@ -132,8 +132,8 @@ module _ (m : Measure) (d : Schema) (k : Knowledge) where
 
     test-grows : (p : Place) (t : ℤ) (x : Bool) (r : Bool) (o : Option ℕ) → reached m d k p ≡ r → andThen (placeType d p) (sortOf d) ≡ o → ifReached r (tellsTest m k p t o) ≡ Some x
         → tells m d (learn k l b) (passes p t) ≡ Some x
-    test-grows p t x false o er eo e = absurd (none-some x e)
-    test-grows p t x true None er eo e = absurd (none-some x e)
+    test-grows p t x false o er eo e = absurd (none≢some x e)
+    test-grows p t x true None er eo e = absurd (none≢some x e)
     test-grows p t x true (Some s) er eo e =
         tells-test m d (learn k l b) p t s (reached-stays m d k l b ask untold p er) eo
         ∙ told-still (anyAtom (passing m k p s t)) (anyAtom (failing m k p s t)) (anyAtom (passing m (learn k l b) p s t)) (anyAtom (failing m (learn k l b) p s t)) x e

@@ -17,10 +17,10 @@ use Rattle.rules.specs.Garments.{Place, whole, below, placeType}
 use Rattle.theory.specs.Runs.{Look, isBuilt, passes, says}
 use Rattle.theory.specs.Inhabited.{anyAtom, allOf, inhabited}
 use Rattle.theory.specs.Knowledge.{Knowledge, learn, samePlace, headAgrees, headAgreesAll, buildsType, candidate, only, reached, atomAgrees, atomAgreesAll, allowed, heard, decided, tellsHead, tellsTest, ifReached, tells, Askable, AllAskable, Heard, AllHeard}
-use Rattle.theory.proofs.Below.{none-some}
 use Rattle.theory.proofs.Atoms.{any-to}
-use Rattle.theory.proofs.Parts.{same-place}
 use Rattle.theory.proofs.Candidates.{only-candidate, only-one, only-from, another}
+use Rattle.theory.proofs.Facts.{none≢some}
+use Rattle.theory.proofs.Parts.{same-place}
 
 -- ── tests that one more fact is part of ──
 
@@ -42,14 +42,14 @@ candidate-learnt m d k l b p c =
 
 pub open-head : (r o h : Bool) → r ≡ true → ifReached r (tellsHead o h) ≡ None → (o ≡ false) × (h ≡ true)
 open-head false o h er e = absurd (false≢true er)
-open-head true true h er e = absurd (none-some true (sym e))
+open-head true true h er e = absurd (none≢some true (sym e))
 open-head true false true er e = (refl, refl)
-open-head true false false er e = absurd (none-some false (sym e))
+open-head true false false er e = absurd (none≢some false (sym e))
 
 open-both : (y n : Bool) → decided y n ≡ None → (y ≡ true) × (n ≡ true)
 open-both true true e = (refl, refl)
-open-both true false e = absurd (none-some true (sym e))
-open-both false n e = absurd (none-some false (sym e))
+open-both true false e = absurd (none≢some true (sym e))
+open-both false n e = absurd (none≢some false (sym e))
 
 -- the atoms that may stand at p and pass the test, or fail it
 abbrev pub passing : Measure → Knowledge → Place → ℕ → ℤ → ℤ → Bool
@@ -111,7 +111,7 @@ module _ (m : Measure) (d : Schema) (k : Knowledge) where
   heard-kept (says r) b untold q x e = go (sameQuestion r q) refl
     where
       go : (z : Bool) → sameQuestion r q ≡ z → cond z (Some b) (heard k q) ≡ Some x
-      go true f = absurd (none-some x (sym untold ∙ ap (heard k) (same-decides r q .0 f) ∙ e))
+      go true f = absurd (none≢some x (sym untold ∙ ap (heard k) (same-decides r q .0 f) ∙ e))
       go false f = e
 
   module _ (l : Look) (b : Bool) (ask : Askable m d k l) (untold : tells m d k l ≡ None) where

@@ -34,7 +34,6 @@ pub mod AskedWithin
 pub mod HeardAnswers
 pub mod EntryLists
 pub mod EntryTypes
-pub mod FoundBelow
 pub mod DefaultEntries
 pub mod PlaceEntries
 pub mod PlacesShown

@@ -13,8 +13,9 @@ use Rattle.rules.specs.Sheets.{Pattern, Patterns, any, bind, build, either, gau
 use Rattle.theory.specs.Knowledge.{samePlace}
 use Rattle.theory.specs.Interned.{among, parentAmong, allAmong, alsoListed, eachBelow, Interned}
 use Rattle.theory.specs.Budgets.{placesOfPattern, placesOfPatterns, placesOfSheet, PlacesListed}
-use Rattle.theory.proofs.SamePlaces.{same-place, same-self, among-append-left, among-append-right, all-append-left, all-append-right, interned-none, interned-grows}
+use Rattle.theory.proofs.SamePlaces.{among-append-left, among-append-right, all-append-left, all-append-right, interned-none, interned-grows}
 use Rattle.theory.proofs.PlacesLooked.{sheet-places}
+use Rattle.theory.proofs.Parts.{same-place, place-same}
 
 -- all places of one list are in another
 abbrev AllIn : List Place → List Place → Type 0
@@ -36,7 +37,7 @@ step-has ps q = go (among (whole ∷ ps) q) refl
   where
     go : (b : Bool) → among (whole ∷ ps) q ≡ b → among (whole ∷ cond b ps (ps ++ q ∷ [])) q ≡ true
     go true e = e
-    go false e = among-append-right (whole ∷ ps) (q ∷ []) q (or-left (samePlace q q) false (same-self q))
+    go false e = among-append-right (whole ∷ ps) (q ∷ []) q (or-left (samePlace q q) false (place-same q))
 
 step-few : (ps : List Place) (q : Place) → length (withPlace ps q) ≤ suc (length ps)
 step-few ps q = go (among (whole ∷ ps) q)
@@ -109,7 +110,7 @@ mutual
   patterns-below (withPattern q qs) p c i before h =
       let here : Place = field p c i in
       below-append (here ∷ placesOfPattern q here) (placesOfPatterns qs p c (suc i)) before
-      (and-from (among before p) (eachBelow (here ∷ before) (placesOfPattern q here)) h (pattern-below q here (here ∷ before) (or-left (samePlace here here) (among before here) (same-self here))))
+      (and-from (among before p) (eachBelow (here ∷ before) (placesOfPattern q here)) h (pattern-below q here (here ∷ before) (or-left (samePlace here here) (among before here) (place-same here))))
       (patterns-below qs p c (suc i) before h)
 
 sheet-below : (ks : List Clause) → eachBelow (whole ∷ []) (placesOfSheet ks) ≡ true

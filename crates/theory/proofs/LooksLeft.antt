@@ -11,7 +11,7 @@ use Rattle.theory.specs.Knowledge.{tells}
 use Rattle.theory.specs.Explore.{byAnswer}
 use Rattle.theory.specs.Settle.{Known, settle}
 use Rattle.theory.specs.Left.{left, unknown, Looks-fall}
-use Rattle.theory.proofs.Verdicts.{none≢some}
+use Rattle.theory.proofs.Facts.{none≢some}
 
 -- all that k tells j tells
 abbrev pub Tells-on : Known → Known → Type 0

@@ -17,7 +17,8 @@ use Rattle.rules.specs.declared.rows.TypeRow.the-variants.{Choice, Measured}
 use Rattle.rules.specs.Book.{Schema, fieldsOf, ownerOf, ownerIn, isChoice}
 use Rattle.rules.specs.Garments.{isSomeNumber}
 use Rattle.theory.specs.Inhabited.{firstBelow, makes, inhabitedBy, inhabitedWith, allOf, wanted, fresh, takeIn, closing, makers, inhabited}
-use Rattle.theory.proofs.Below.{none-some, first-passes, first-none, count, count-less, count-most, count-none}
+use Rattle.theory.proofs.Below.{first-passes, first-none, count, count-less, count-most, count-none}
+use Rattle.theory.proofs.Facts.{none≢some}
 
 -- ── readings ──
 
@@ -39,7 +40,7 @@ owner-below d c t e = go (cases-lt c (length (d .constructors)))
   where
     go : (c < length (d .constructors)) ⊎ (length (d .constructors) ≤ c) → c < length (d .constructors)
     go (inl l) = l
-    go (inr l) = absurd (none-some t (sym (ap ownerIn (nth-past (d .constructors) c l)) ∙ e))
+    go (inr l) = absurd (none≢some t (sym (ap ownerIn (nth-past (d .constructors) c l)) ∙ e))
 
 module _ (m : Measure) (d : Schema) where
   -- ── how many constructors still could make the first garments of their type ──

@@ -11,7 +11,7 @@ use Rattle.measure.specs.Measure.{Measure}
 use Rattle.rules.specs.Book.{Schema}
 use Rattle.rules.specs.Garments.{Value, Values, noValues, withValue, Place, whole, below, fieldAt, OfType, OfTypes}
 use Rattle.theory.specs.Knowledge.{samePlace}
-use Rattle.theory.proofs.Below.{none-some, some-same}
+use Rattle.theory.proofs.Facts.{none≢some, some-same}
 
 pub same-place : (p q : Place) → samePlace p q ≡ true → p ≡ q
 same-place whole whole e = refl
@@ -34,7 +34,7 @@ place-same (below p s) =
 module _ (m : Measure) (d : Schema) where
   -- a field that the constructor has stands in the value, and is of the field's type
   pub field-typed : (ts : List ℕ) (vs : Values) (i t : ℕ) → OfTypes m d ts vs → nth ts i ≡ Some t → (u : Value) × ((fieldAt vs i ≡ Some u) × OfType m d t u)
-  field-typed [] vs i t w e = absurd (none-some t e)
+  field-typed [] vs i t w e = absurd (none≢some t e)
   field-typed (t₁ ∷ ts) noValues i t w e = absurd w
   field-typed (t₁ ∷ ts) (withValue v vs) zero t w e = (v, (refl, subst (λ x. OfType m d x v) (some-same t₁ t e) (w .0)))
   field-typed (t₁ ∷ ts) (withValue v vs) (suc i) t w e = field-typed ts vs i t (w .1) e
@@ -42,7 +42,7 @@ module _ (m : Measure) (d : Schema) where
   -- a value for each type of a list, each with a property
   pub values-for : (Good : ℕ → Value → Type 0) (ts : List ℕ) → ((i t : ℕ) → nth ts i ≡ Some t → (v : Value) × (OfType m d t v × Good i v))
       → (vs : Values) × (OfTypes m d ts vs × ((i : ℕ) (u : Value) → fieldAt vs i ≡ Some u → Good i u))
-  values-for Good [] each = (noValues, (tt, λ i u e. absurd (none-some u e)))
+  values-for Good [] each = (noValues, (tt, λ i u e. absurd (none≢some u e)))
   values-for Good (t ∷ ts) each =
       let first = each 0 t refl in
       let rest = values-for (λ i. Good (suc i)) ts (λ i. each (suc i)) in

@@ -18,8 +18,8 @@ use Rattle.rules.specs.Garments.{Place, placeType}
 use Rattle.theory.specs.Inhabited.{anyOf, anyAtom, makes, makers, inhabitedBy, inhabited}
 use Rattle.theory.specs.Knowledge.{Knowledge, allowed, Good}
 use Rattle.theory.specs.ShownGarment.{Picks}
-use Rattle.theory.proofs.EntryLists.{some-same, none-some}
 use Rattle.theory.proofs.PlaceEntries.{choice-or-sort}
+use Rattle.theory.proofs.Facts.{none≢some, some-same}
 
 any-of : (n : ℕ) (test : ℕ → Bool) → anyOf n test ≡ true → (i : ℕ) × (test i ≡ true)
 unfolding anyOf
@@ -40,7 +40,7 @@ module _ (m : Measure) (d : Schema) (k : Knowledge) (good : Good m d k) where
       go : (b : Bool) → inhabited m d t ≡ b → Chosen p s
       go false l = (pos 0, λ u q h row. absurd (both-ways (inhabited m d t) l (subst (λ x. inhabited m d x ≡ true) (some-same u t (sym q ∙ r)) h)))
       go true l = ⊎-elim
-          (λ choice. (pos 0, λ u q h row. absurd (none-some s (sym (ap sortIn choice) ∙ ap (sortOf d) (some-same t u (sym r ∙ q)) ∙ ap sortIn row))))
+          (λ choice. (pos 0, λ u q h row. absurd (none≢some s (sym (ap sortIn choice) ∙ ap (sortOf d) (some-same t u (sym r ∙ q)) ∙ ap sortIn row))))
           (λ x. let a = good .atoms p t (x .0) r l (x .1) in (
             a .0,
             λ u q h row. subst (λ z. allowed m k p z (a .0) ≡ true) (some-same (x .0) s (sym (ap sortIn (x .1)) ∙ ap (sortOf d) (some-same t u (sym r ∙ q)) ∙ ap sortIn row)) (a .1),
@@ -51,7 +51,7 @@ module _ (m : Measure) (d : Schema) (k : Knowledge) (good : Good m d k) where
   chosen p s = go (placeType d p) refl
     where
       go : (o : Option ℕ) → placeType d p ≡ o → Chosen p s
-      go None r = (pos 0, λ t q. absurd (none-some t (sym r ∙ q)))
+      go None r = (pos 0, λ t q. absurd (none≢some t (sym r ∙ q)))
       go (Some t) r = chosen-typed p s t r
 
   usually : (s : ℕ) → (a : ℤ) × ((t : ℕ) → inhabited m d t ≡ true → nth (d .types) t ≡ Some (Measured s) → m .atom s a ≡ true)

@@ -21,8 +21,10 @@ use Rattle.theory.specs.Inhabited.{makes, inhabitedBy, makers, inhabited}
 use Rattle.theory.specs.Knowledge.{Knowledge, samePlace, candidate}
 use Rattle.theory.specs.Interned.{among, parentAmong}
 use Rattle.theory.specs.ShownGarment.{ShownSoFar, shownWith}
-use Rattle.theory.proofs.EntryLists.{some-same, Typed, typed-stays, typed-new, valueAt, value-stays, value-new, fit-push}
-use Rattle.theory.proofs.SamePlaces.{same-place, same-self, not-below-itself, parent-of}
+use Rattle.theory.proofs.EntryLists.{Typed, typed-stays, typed-new, valueAt, value-stays, value-new, fit-push}
+use Rattle.theory.proofs.SamePlaces.{not-below-itself, parent-of}
+use Rattle.theory.proofs.Facts.{some-same}
+use Rattle.theory.proofs.Parts.{same-place, place-same}
 
 -- the types have rows
 pub choice-or-sort : (m : Measure) (d : Schema) (t : ℕ) → inhabited m d t ≡ true → (nth (d .types) t ≡ Some Choice) ⊎ ((s : ℕ) × (nth (d .types) t ≡ Some (Measured s)))
@@ -62,7 +64,7 @@ module _ (m : Measure) (d : Schema) (k : Knowledge) (pick : Place → ℕ → �
       go false s h = inr (s, h)
 
   pub newest : (sh : ShownSoFar) (p : Place) (e : GarmentEntry) → shownWith sh p e .entryOf p ≡ Some (length (sh .entries))
-  newest sh p e = ap (λ b. cond b (Some (length (sh .entries))) (sh .entryOf p)) (same-self p)
+  newest sh p e = ap (λ b. cond b (Some (length (sh .entries))) (sh .entryOf p)) (place-same p)
 
   module _ (ps : List Place) (sh : ShownSoFar) (p : Place) (t : ℕ) (e : GarmentEntry) (ok : PlacesFit ps sh) (first : parentAmong ps p ≡ false) (type-is : placeType d p ≡ Some t) (ty : e .ty ≡ t) where
     abbrev more : List GarmentEntry
@@ -89,7 +91,7 @@ module _ (m : Measure) (d : Schema) (k : Knowledge) (pick : Place → ℕ → �
 
     own-field : (c i j : ℕ) → entryNow (field p c i) ≡ Some j → sh .entryOf (field p c i) ≡ Some j
     own-field c i j h = ⊎-elim
-        (λ here. absurd (both-ways (samePlace p (field p c i)) (not-below-itself p (record { constructor = c; field = i })) (subst (λ (x : Place). samePlace p x ≡ true) (here .0) (same-self p))))
+        (λ here. absurd (both-ways (samePlace p (field p c i)) (not-below-itself p (record { constructor = c; field = i })) (subst (λ (x : Place). samePlace p x ≡ true) (here .0) (place-same p))))
         (λ old. old .1)
         (which sh p e (field p c i) j h)
 
@@ -128,7 +130,7 @@ module _ (m : Measure) (d : Schema) (k : Knowledge) (pick : Place → ℕ → �
     one-more f head atom = record {
       fit = fit-push m d [] (sh .entries) e (ok .fit) f;
       stock = λ u l. typed-stays (sh .entries) e (defaultOf u) u (ok .stock u l);
-      listed = λ q n h. ⊎-elim (λ a. or-left (samePlace p q) (among ps q) (subst (λ (x : Place). samePlace p x ≡ true) (a .0) (same-self p))) (λ b. or-right (samePlace p q) (among ps q) (ok .listed q n (b .1))) (which sh p e q n h);
+      listed = λ q n h. ⊎-elim (λ a. or-left (samePlace p q) (among ps q) (subst (λ (x : Place). samePlace p x ≡ true) (a .0) (place-same p))) (λ b. or-right (samePlace p q) (among ps q) (ok .listed q n (b .1))) (which sh p e q n h);
       typed = typed-now;
       heads = λ q n u h r row. ⊎-elim
           (λ a. let same : t ≡ u = some-same t u (sym type-is ∙ ap (placeType d) (a .0) ∙ r) in

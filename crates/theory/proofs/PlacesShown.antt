@@ -24,12 +24,13 @@ use Rattle.theory.specs.Inhabited.{firstBelow, allOf, makes, inhabitedBy, make
 use Rattle.theory.specs.Knowledge.{Knowledge, samePlace, candidate, buildsType, headAgreesAll, allowed, atomAgreesAll, Good}
 use Rattle.theory.specs.Interned.{among, parentAmong, parentsFirst}
 use Rattle.theory.specs.ShownGarment.{builtEntry, measuredEntry, Stock, ShownSoFar, shownWith, fieldEntries, showBuilt, showRow, showPlace, shownPlaces, FourFields}
-use Rattle.theory.proofs.EntryLists.{some-same, none-some, is-number, number-is, is-choice, nth-inside}
+use Rattle.theory.proofs.EntryLists.{is-number, number-is, is-choice, nth-inside}
 use Rattle.theory.proofs.EntryTypes.{built-fits, measured-fits, built-value, measured-value}
-use Rattle.theory.proofs.FoundBelow.{found-passes, none-passes}
+use Rattle.theory.proofs.Below.{first-passes, first-none}
 use Rattle.theory.proofs.DefaultEntries.{StockFits}
 use Rattle.theory.proofs.PlaceEntries.{PlacesFit, newest, one-more, passed-over}
-use Rattle.theory.proofs.SamePlaces.{same-self}
+use Rattle.theory.proofs.Facts.{none≢some, some-same}
+use Rattle.theory.proofs.Parts.{place-same}
 
 -- ── candidates ──
 
@@ -50,13 +51,13 @@ pub owner-inside : (d : Schema) (c t : ℕ) → ownerOf d c ≡ Some t → c < l
 owner-inside d c t e = go (nth (d .constructors) c) refl e
   where
     go : (o : Option ConstructorRow) → nth (d .constructors) c ≡ o → ownerIn o ≡ Some t → c < length (d .constructors)
-    go None q e = absurd (none-some t e)
+    go None q e = absurd (none≢some t e)
     go (Some r) q e = nth-inside (d .constructors) c r q
 
 -- ── fields ──
 
 pub children-at : (vs : List Value) (ns : List ℕ) (i n : ℕ) → nth ns i ≡ Some n → fieldAt (children vs ns) i ≡ Some (getD vs n (built 0 noValues))
-children-at vs [] i n e = absurd (none-some n e)
+children-at vs [] i n e = absurd (none≢some n e)
 children-at vs (x ∷ ns) zero n e = ap (λ y. Some (getD vs y (built 0 noValues))) (some-same x n e)
 children-at vs (x ∷ ns) (suc i) n e = children-at vs ns i n e
 
@@ -66,7 +67,7 @@ module _ (entryOf : Place → Option ℕ) (defaultOf : ℕ → ℕ) (p : Place) 
   fields-length (t ∷ ts) i = ap suc (fields-length ts (suc i))
 
   entry-at : (ts : List ℕ) (i j at u n : ℕ) → at ≡ i + j → nth ts j ≡ Some u → entryOf (field p c at) ≡ Some n → nth (fieldEntries entryOf defaultOf p c i ts) j ≡ Some n
-  entry-at [] i j at u n a e h = absurd (none-some u e)
+  entry-at [] i j at u n a e h = absurd (none≢some u e)
   entry-at (t ∷ ts) i zero at u n a e h =
       let here : i ≡ at = omega arith in
       ap (λ x. Some (valueOr (entryOf (field p c x)) (defaultOf t))) here ∙ ap (λ o. Some (valueOr o (defaultOf t))) h
@@ -116,9 +117,9 @@ module _ (m : Measure) (d : Schema) (k : Knowledge) (pick : Place → ℕ → �
     built-shown : nth (d .types) t ≡ Some Choice → (o : Option ℕ) → firstBelow (length (d .constructors)) (candidate m d k p) ≡ o → PlaceShown ps p sh (showBuilt d defaultOf p t o sh)
     built-shown row None e =
         let some = good .heads p t r l row in
-        absurd (none-passes (length (d .constructors)) (candidate m d k p) (some .0) e (owner-inside d (some .0) t (candidate-parts m d k p t (some .0) r (some .1) .owner)) (some .1))
+        absurd (first-none (length (d .constructors)) (candidate m d k p) e (some .0) (owner-inside d (some .0) t (candidate-parts m d k p t (some .0) r (some .1) .owner)) (some .1))
     built-shown row (Some c) e =
-        let can = found-passes (length (d .constructors)) (candidate m d k p) c e in
+        let can = first-passes (length (d .constructors)) (candidate m d k p) c e .1 in
         let parts = candidate-parts m d k p t c r can in
         let ns : List ℕ = fieldEntries (sh .entryOf) defaultOf p c 0 (fieldsOf d c) in
         let short : length ns ≤ 4 = omega (arith, fields-length (sh .entryOf) defaultOf p c (fieldsOf d c) 0, sound c) in
@@ -152,7 +153,7 @@ module _ (m : Measure) (d : Schema) (k : Knowledge) (pick : Place → ℕ → �
   place-shown : (ps : List Place) (sh : ShownSoFar) (p : Place) → PlacesFit m d k pick defaultOf ps sh → parentAmong ps p ≡ false
       → ((t s : ℕ) → placeType d p ≡ Some t → inhabited m d t ≡ true → nth (d .types) t ≡ Some (Measured s) → allowed m k p s (pick p s) ≡ true)
       → (o : Option ℕ) → placeType d p ≡ o → PlaceShown ps p sh (showPlace m d k pick defaultOf p o sh)
-  place-shown ps sh p ok first a None r = nothing-shown ps sh p ok (λ t q l. none-some t (sym r ∙ q))
+  place-shown ps sh p ok first a None r = nothing-shown ps sh p ok (λ t q l. none≢some t (sym r ∙ q))
   place-shown ps sh p ok first a (Some t) r = go (inhabited m d t) refl
     where
       go : (b : Bool) → inhabited m d t ≡ b → PlaceShown ps p sh (cond b (showRow m d k pick defaultOf p t (nth (d .types) t) sh) sh)
@@ -172,22 +173,22 @@ module _ (m : Measure) (d : Schema) (k : Knowledge) (pick : Place → ℕ → �
   places-fit [] e a = record {
     fit = stocked .fit;
     stock = stocked .has;
-    listed = λ q n h. absurd (none-some n h);
-    typed = λ q n h. absurd (none-some n h);
-    heads = λ q n t h. absurd (none-some n h);
-    atoms = λ q n t s h. absurd (none-some n h);
+    listed = λ q n h. absurd (none≢some n h);
+    typed = λ q n h. absurd (none≢some n h);
+    heads = λ q n t h. absurd (none≢some n h);
+    atoms = λ q n t s h. absurd (none≢some n h);
     complete = λ q t h. absurd (false≢true h);
   }
   places-fit (p ∷ ps) e a =
       let two = and-parts (not (parentAmong ps p)) (parentsFirst ps) e in
       place-shown m d k pick (st .defaultOf) sound good ps (shownPlaces m d k pick st ps) p (places-fit ps (two .1) (later p ps a)) (not-true (parentAmong ps p) (two .0))
-      (λ t s. a p t s (or-left (samePlace p p) (among ps p) (same-self p))) (placeType d p) refl .fits
+      (λ t s. a p t s (or-left (samePlace p p) (among ps p) (place-same p))) (placeType d p) refl .fits
 
   pub first-shown : (p : Place) (ps : List Place) → parentsFirst (p ∷ ps) ≡ true → Allowed (p ∷ ps) → PlaceShown m d k pick (st .defaultOf) sound good ps p (shownPlaces m d k pick st ps) (shownPlaces m d k pick st (p ∷ ps))
   first-shown p ps e a =
       let two = and-parts (not (parentAmong ps p)) (parentsFirst ps) e in
       place-shown m d k pick (st .defaultOf) sound good ps (shownPlaces m d k pick st ps) p (places-fit ps (two .1) (later p ps a)) (not-true (parentAmong ps p) (two .0))
-      (λ t s. a p t s (or-left (samePlace p p) (among ps p) (same-self p))) (placeType d p) refl
+      (λ t s. a p t s (or-left (samePlace p p) (among ps p) (place-same p))) (placeType d p) refl
 
   pub places-few : (ps : List Place) → parentsFirst ps ≡ true → Allowed ps → length (shownPlaces m d k pick st ps .entries) ≤ length (st .entries) + length ps
   places-few [] e a = omega arith

@@ -4,6 +4,7 @@ use mathlib.Core.List.{List, [], _∷_, _++_}
 use mathlib.Core.Bool.{Bool, true, false, cond}
 use Prim.Native.Nat.{ℕ, zero, suc}
 use lib.ListN.{drop}
+use Rattle.std.proofs.shelf.Tests.{and-from}
 use Rattle.std.specs.shelf.Maps.{nth}
 use Rattle.std.specs.declared.option.Option.{Option}
 use Rattle.std.specs.declared.option.Option.the-variants.{Some, None}
@@ -17,7 +18,6 @@ use Rattle.theory.specs.Runs.{isBuilt, passes, says, Run, done, look, patternR
 use Rattle.theory.specs.Knowledge.{Knowledge, only, reached}
 use Rattle.theory.specs.Explore.{More, Proper}
 use Rattle.theory.specs.ProperRuns.{ChoiceAt, PlaceFits, PlacesFit, TreeFits, BranchesFit, Runs-proper}
-use Rattle.theory.proofs.Facts.{and-join}
 use Rattle.theory.proofs.Kept.{more-self, more-more, only-told, only-kept, reached-kept, field-reached, askable-kept, proper-kept}
 
 first-dropped : (i : ℕ) (xs : List ℕ) → nth xs i ≡ nth (drop i xs) 0
@@ -107,7 +107,7 @@ module _ (m : Measure) (d : Schema) where
         (z, w .1 .0),
         (
           λ i u told. h i (more-more m d k j i s u)
-              (and-join (reached m d i p) _ (reached-kept m d j i p u z) (and-join (only m d i p (q .constructor)) _ (only-told m d i p (q .constructor) told) (w .1 .2))),
+              (and-from (reached m d i p) _ (reached-kept m d j i p u z) (and-from (only m d i p (q .constructor)) _ (only-told m d i p (q .constructor) told) (w .1 .2))),
           λ i u told. tt,
         ),
       ))

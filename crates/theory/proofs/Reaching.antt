@@ -11,7 +11,7 @@ use Rattle.rules.specs.Garments.{Place, whole, below}
 use Rattle.theory.specs.Runs.{Look, isBuilt, passes, says}
 use Rattle.theory.specs.Knowledge.{Knowledge, reached, only, candidate, ifReached, tellsHead, Askable}
 use Rattle.theory.specs.Explore.{More}
-use Rattle.theory.proofs.Verdicts.{none≢some}
+use Rattle.theory.proofs.Facts.{none≢some}
 
 head-told : (r o c : Bool) → r ≡ true → o ≡ true → ifReached r (tellsHead o c) ≡ Some true
 head-told r o c e f = ap (λ (t : Bool). ifReached t (tellsHead o c)) e ∙ ap (λ (t : Bool). tellsHead t c) f

@@ -21,28 +21,9 @@ use Rattle.theory.specs.Runs.{Look, isBuilt, passes, says}
 use Rattle.theory.specs.Inhabited.{allOf, inhabited, anyAtom}
 use Rattle.theory.specs.Knowledge.{Fact, Knowledge, learn, samePlace, headAgrees, headAgreesAll, buildsType, candidate, noneBelow, only, reached, atomAgrees, atomAgreesAll, allowed, hearing, heard, decided, tellsHead, tellsTest, ifReached, tells}
 use Rattle.theory.specs.Quick.{atOrAbove, bears, SameHeads, SameOf}
+use Rattle.theory.proofs.Parts.{same-place, place-same}
 
 -- ── places ──
-
-same-step : (r s : Step) → eqb (r .constructor) (s .constructor) ≡ true → eqb (r .field) (s .field) ≡ true → r ≡ s
-same-step r s e f =
-    ap (λ (c : ℕ). record { constructor = c; field = r .field }) (eqb-true (r .constructor) (s .constructor) e)
-    ∙ ap (λ (i : ℕ). record { constructor = s .constructor; field = i }) (eqb-true (r .field) (s .field) f)
-
-same-place : (p q : Place) → samePlace p q ≡ true → p ≡ q
-same-place whole whole e = refl
-same-place whole (below q s) e = absurd (both-ways false refl e)
-same-place (below p r) whole e = absurd (both-ways false refl e)
-same-place (below p r) (below q s) e =
-    let parts = and-parts (samePlace p q) (eqb (r .constructor) (s .constructor) && eqb (r .field) (s .field)) e in
-    let steps = and-parts (eqb (r .constructor) (s .constructor)) (eqb (r .field) (s .field)) (parts .1) in
-    ap (λ (o : Place). below o r) (same-place p q (parts .0)) ∙ ap (below q) (same-step r s (steps .0) (steps .1))
-
-place-same : (p : Place) → samePlace p p ≡ true
-place-same whole = refl
-place-same (below p s) =
-    and-from (samePlace p p) (eqb (s .constructor) (s .constructor) && eqb (s .field) (s .field)) (place-same p)
-    (and-from (eqb (s .constructor) (s .constructor)) (eqb (s .field) (s .field)) (eq-eqb (s .constructor) (s .constructor) refl) (eq-eqb (s .field) (s .field) refl))
 
 at-same : (q p : Place) → samePlace q p ≡ true → atOrAbove q p ≡ true
 at-same q whole e = e

@@ -16,11 +16,11 @@ use Rattle.theory.specs.Knowledge.{Fact, Knowledge, learn, Holds, tells, Good}
 use Rattle.theory.specs.Explore.{same, Verdict, alike, differs, orNext, byAnswer, exploreSecond, explore, Proper}
 use Rattle.theory.specs.Quick.{bears, relevant, relevantTo, SameOfAll, difference, Remembering}
 use Rattle.theory.specs.Verdicts.{Knowing}
-use Rattle.theory.proofs.Verdicts.{none≢some}
 use Rattle.theory.proofs.Careful.{careful}
 use Rattle.theory.proofs.Explored.{alike-shows}
 use Rattle.theory.proofs.Judging.{alike-found}
 use Rattle.theory.proofs.Relevance.{tells-same, same-learnt, kept-same}
+use Rattle.theory.proofs.Facts.{none≢some}
 
 end-difference : (t : Bool) (k j : Knowledge) (a b : Answer) → difference (cond t alike (differs k a b)) ≡ difference (cond t alike (differs j a b))
 end-difference true k j a b = refl

@@ -11,24 +11,7 @@ use Rattle.guards.specs.declared.step.Step.{Step}
 use Rattle.rules.specs.Garments.{Place, whole, below}
 use Rattle.theory.specs.Knowledge.{samePlace}
 use Rattle.theory.specs.Interned.{among, parentAmong, parentsFirst, allAmong, Interned}
-
-step-same : (r s : Step) → r .constructor ≡ s .constructor → r .field ≡ s .field → r ≡ s
-step-same r s e f = ap₂ (λ c i. record { constructor = c; field = i }) e f
-
-pub same-place : (p q : Place) → samePlace p q ≡ true → p ≡ q
-same-place whole whole e = refl
-same-place whole (below q s) e = absurd (false≢true e)
-same-place (below p r) whole e = absurd (false≢true e)
-same-place (below p r) (below q s) e =
-    let two = and-parts (samePlace p q) (eqb (r .constructor) (s .constructor) && eqb (r .field) (s .field)) e in
-    let steps = and-parts (eqb (r .constructor) (s .constructor)) (eqb (r .field) (s .field)) (two .1) in
-    ap₂ below (same-place p q (two .0)) (step-same r s (eqb-true (r .constructor) (s .constructor) (steps .0)) (eqb-true (r .field) (s .field) (steps .1)))
-
-pub same-self : (p : Place) → samePlace p p ≡ true
-same-self whole = refl
-same-self (below p s) =
-    and-from (samePlace p p) (eqb (s .constructor) (s .constructor) && eqb (s .field) (s .field)) (same-self p)
-    (and-from (eqb (s .constructor) (s .constructor)) (eqb (s .field) (s .field)) (eq-eqb (s .constructor) (s .constructor) refl) (eq-eqb (s .field) (s .field) refl))
+use Rattle.theory.proofs.Parts.{same-place, place-same}
 
 -- how deep a place is
 abbrev depthOf : Place → ℕ
@@ -89,7 +72,7 @@ first-push (q ∷ ps) p e h r =
     let two = and-parts (not (parentAmong ps q)) (parentsFirst ps) e in
     and-from (not (parentAmong (ps ++ p ∷ []) q)) (parentsFirst (ps ++ p ∷ []))
     (not-from-false (parentAmong (ps ++ p ∷ []) q)
-    (mine q (λ x s i. h x s (or-left (samePlace q (below x s)) (among ps (below x s)) (subst (λ (z : Place). samePlace q z ≡ true) i (same-self q)))) (not-true (parentAmong ps q) (two .0))))
+    (mine q (λ x s i. h x s (or-left (samePlace q (below x s)) (among ps (below x s)) (subst (λ (z : Place). samePlace q z ≡ true) i (place-same q)))) (not-true (parentAmong ps q) (two .0))))
     (first-push ps p (two .1) (λ x s i. h x s (or-right (samePlace q (below x s)) (among ps (below x s)) i)) r)
   where
     mine : (q : Place) → ((x : Place) (s : Step) → q ≡ below x s → samePlace p x ≡ false) → parentAmong ps q ≡ false → parentAmong (ps ++ p ∷ []) q ≡ false

@@ -22,11 +22,11 @@ use Rattle.theory.specs.Budgets.{treeAmong, branchesAmong, PlacesListed}
 use Rattle.theory.specs.ShownAnswers.{AllWithin, shownAnswers}
 use Rattle.theory.specs.ShownGarment.{Picks, shownGarment, GarmentFits}
 use Rattle.theory.specs.ShownFits.{WithinLimits, placesListed, ShownInMemory, Shown-fits-memory}
-use Rattle.theory.proofs.SamePlaces.{same-place}
 use Rattle.theory.proofs.LearntOnPath.{budgets-hold}
 use Rattle.theory.proofs.HeardAnswers.{answers-shown}
 use Rattle.theory.proofs.GarmentShown.{garment-shown}
 use Rattle.theory.proofs.Picking.{picks}
+use Rattle.theory.proofs.Parts.{same-place}
 
 both-more : (a b c e : Bool) → (a ≡ true → c ≡ true) → (b ≡ true → e ≡ true) → (a && b) ≡ true → (c && e) ≡ true
 both-more a b c e f g h = let two = and-parts a b h in and-from c e (f (two .0)) (g (two .1))

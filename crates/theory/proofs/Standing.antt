@@ -16,9 +16,9 @@ use Rattle.rules.specs.declared.rows.TypeRow.the-variants.{Choice, Measured}
 use Rattle.rules.specs.Book.{Schema, fieldsOf}
 use Rattle.rules.specs.Garments.{Value, Values, built, measured, Place, whole, below, fieldAt, stepInto, partAt, placeType, OfType, OfTypes}
 use Rattle.theory.specs.Knowledge.{Knowledge, candidate, only, reached}
-use Rattle.theory.proofs.Below.{some-same}
 use Rattle.theory.proofs.Parts.{field-typed}
 use Rattle.theory.proofs.Candidates.{is-candidate, only-candidate, only-one}
+use Rattle.theory.proofs.Facts.{some-same}
 
 -- the number of steps of a place
 abbrev pub steps : Place → ℕ

@@ -21,21 +21,21 @@ use Rattle.theory.specs.Runs.{Look, isBuilt, passes, says, worldOf}
 use Rattle.theory.specs.Inhabited.{anyAtom}
 use Rattle.theory.specs.Knowledge.{Knowledge, Holds, Fits, samePlace, headAgrees, headAgreesAll, candidate, only, reached, atomAgrees, atomAgreesAll, allowed, hearing, heard, decided, tellsHead, tellsTest, ifReached, tells}
 use Rattle.theory.specs.Theorems.{Tells-right}
-use Rattle.theory.proofs.Below.{none-some, some-same}
 use Rattle.theory.proofs.Atoms.{any-from}
-use Rattle.theory.proofs.Parts.{same-place}
 use Rattle.theory.proofs.Inhabiting.{types-found}
 use Rattle.theory.proofs.Candidates.{gives-same, row-of-sort, candidate-from}
 use Rattle.theory.proofs.Standing.{steps, choice-measured, Stood, Candid, found-only, stands-reached}
+use Rattle.theory.proofs.Facts.{none≢some, some-same}
+use Rattle.theory.proofs.Parts.{same-place}
 
 -- where a yes, or a no, is possible, the other is told only if it is not
 told-yes : (y n b : Bool) → decided y n ≡ Some b → y ≡ true → b ≡ true
-told-yes true true b e h = absurd (none-some b e)
+told-yes true true b e h = absurd (none≢some b e)
 told-yes true false b e h = sym (some-same true b e)
 told-yes false n b e h = absurd (false≢true h)
 
 told-no : (y n b : Bool) → decided y n ≡ Some b → n ≡ true → b ≡ false
-told-no true true b e h = absurd (none-some b e)
+told-no true true b e h = absurd (none≢some b e)
 told-no true false b e h = absurd (false≢true h)
 told-no false n b e h = sym (some-same false b e)
 
@@ -70,7 +70,7 @@ module _ (m : Measure) (d : Schema) (v : Value) (rule : Rule) where
 
   -- the rule gives the answers that were heard
   rule-heard : (k : Knowledge) (q : Question) (b : Bool) → Holds (worldOf m v rule) k → heard k q ≡ Some b → rule q ≡ b
-  rule-heard [] q b w e = absurd (none-some b e)
+  rule-heard [] q b w e = absurd (none≢some b e)
   rule-heard (f ∷ k) q b w e = by-look (f .asked) (f .answer) (w .0) e (rule-heard k q b (w .1))
     where
       by-look : (l : Look) (x : Bool) → worldOf m v rule l ≡ x → hearing l x q (heard k q) ≡ Some b → (heard k q ≡ Some b → rule q ≡ b) → rule q ≡ b
@@ -103,11 +103,11 @@ module _ (m : Measure) (d : Schema) (k : Knowledge) (v : Value) (rule : Rule) (l
           other false f = refl
 
   head-right : (p : Place) (c : ℕ) (b : Bool) (r o h : Bool) → reached m d k p ≡ r → only m d k p c ≡ o → candidate m d k p c ≡ h → ifReached r (tellsHead o h) ≡ Some b → builtBy c (partAt v p) ≡ b
-  head-right p c b false o h er eo eh e = absurd (none-some b e)
+  head-right p c b false o h er eo eh e = absurd (none≢some b e)
   head-right p c b true true h er eo eh e =
       let f = found-only m d k v (suc (steps p)) (candid (suc (steps p))) p c (omega arith) (stood p er) eo in
       ap (builtBy c) (f .1 .0) ∙ eq-eqb c c refl ∙ some-same true b e
-  head-right p c b true false true er eo eh e = absurd (none-some b e)
+  head-right p c b true false true er eo eh e = absurd (none≢some b e)
   head-right p c b true false false er eo eh e = not-built p c (stood p er) eh ∙ some-same false b e
 
   test-right : (p : Place) (t : ℤ) (b : Bool) (s : ℕ) → andThen (placeType d p) (sortOf d) ≡ Some s → Stood m d k v p → tellsTest m k p t (Some s) ≡ Some b → passesAt m t (partAt v p) ≡ b
@@ -136,8 +136,8 @@ module _ (m : Measure) (d : Schema) (k : Knowledge) (v : Value) (rule : Rule) (l
               (any-from (λ a. allowed m k p s a && not (m .passes s t a)) a (law .atom-fits s a is-atom) (and-from (allowed m k p s a) (not (m .passes s t a)) may-stand (not-from-false (m .passes s t a) f))))
 
   atom-right : (p : Place) (t : ℤ) (b : Bool) (r : Bool) (o : Option ℕ) → reached m d k p ≡ r → andThen (placeType d p) (sortOf d) ≡ o → ifReached r (tellsTest m k p t o) ≡ Some b → passesAt m t (partAt v p) ≡ b
-  atom-right p t b false o er eo e = absurd (none-some b e)
-  atom-right p t b true None er eo e = absurd (none-some b e)
+  atom-right p t b false o er eo e = absurd (none≢some b e)
+  atom-right p t b true None er eo e = absurd (none≢some b e)
   atom-right p t b true (Some s) er eo e = test-right p t b s eo (stood p er) e
 
   all-right : (l : Look) (b : Bool) → tells m d k l ≡ Some b → worldOf m v rule l ≡ b

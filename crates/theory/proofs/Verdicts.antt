@@ -14,9 +14,6 @@ use Rattle.theory.specs.Knowledge.{Knowledge}
 use Rattle.theory.specs.Runs.{Look, Run, look, World, execute}
 use Rattle.theory.specs.Explore.{same, Verdict, alike, differs, orNext}
 
-pub none≢some : {A : Type 0} (x : A) → None ≡ Some x → ⊥
-none≢some x e = false≢true (ap isSome e)
-
 -- ── answers that are the same ──
 
 pub same-right : (a b : Answer) → same a b ≡ true → Same a b
