@@ -1,14 +1,14 @@
 // Kinds of measure at the ends of their ranges.
+use joined::Joined;
+use joined::JoinedKind;
+use labels::Labels;
+use labels::LabelsKind;
 use measure::Ask;
-use measure::Joined;
-use measure::JoinedKind;
 use measure::Kind;
-use measure::Labels;
-use measure::LabelsKind;
-use measure::Millimetres;
-use measure::MillimetresKind;
 use measure::any_atom;
 use measure::solve;
+use millimetres::Millimetres;
+use millimetres::MillimetresKind;
 use std::test::*;
 
 #[test]

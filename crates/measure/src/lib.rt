@@ -1,4 +1,4 @@
-// Kinds of measure: what a kind promises (the trait `Kind`), three kinds, and what is done alike with any of them.
+// Kinds of measure: what a kind promises (the trait `Kind`), and what is done alike with any of them.
 ghost use mathlib.Core.Path.{_≡_};
 ghost use mathlib.Core.Bool.{Bool, true, false, _&&_};
 ghost use Prim.Native.Nat.{ℕ};
@@ -7,24 +7,10 @@ ghost use Rattle.std.specs.Options.{Cases as BySome};
 ghost use Rattle.measure.specs.Measure.{Measure, Lawful, gives};
 
 mod asks;
-mod joined;
-mod labels;
-mod millimetres;
-#[cfg(test)]
-mod tests;
 
 pub use asks::Ask;
 pub use asks::any_atom;
 pub use asks::solve;
-pub use joined::Either;
-pub use joined::Joined;
-pub use joined::JoinedKind;
-pub use labels::Labels;
-pub use labels::LabelsKind;
-pub use labels::Mask;
-pub use millimetres::Interval;
-pub use millimetres::Millimetres;
-pub use millimetres::MillimetresKind;
 
 // A kind serves some of the sorts 0 to 65,535. A sort that it serves has atoms, at least one, and tests, each a yes or
 // no for every atom. No call is refused, and none changes what the kind means.

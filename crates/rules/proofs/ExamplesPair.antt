@@ -8,7 +8,7 @@ use lib.IntN.{pos}
 use Rattle.std.specs.declared.option.Option.the-variants.{Some}
 use Rattle.guards.specs.Questions.{Rule, sameQuestion}
 use Rattle.measure.specs.Measure.{Measure}
-use Rattle.measure.specs.Millimetres.{millimetres}
+use Rattle.millimetres.specs.Millimetres.{millimetres}
 use Rattle.rules.specs.declared.rows.GarmentEntry.{GarmentEntry}
 use Rattle.rules.specs.Book.{Schema, schemaOf}
 use Rattle.rules.specs.Garments.{Value, built, measured, noValues, withValue, whole, OfType, garmentValue, wellTyped}

@@ -8,7 +8,7 @@ use lib.IntN.{ℤ, pos}
 use lib.Signed.{leZ}
 use Rattle.std.proofs.shelf.Signed.{ints}
 use Rattle.guards.specs.Questions.{Rule}
-use Rattle.measure.specs.Millimetres.{measurable}
+use Rattle.millimetres.specs.Millimetres.{measurable}
 use Rattle.rules.specs.declared.rows.GarmentEntry.{GarmentEntry}
 use Rattle.rules.specs.Book.{Schema, schemaOf}
 use Rattle.rules.specs.Garments.{Value, built, measured, noValues, withValue, OfType, wellTyped}

@@ -10,7 +10,7 @@ use Rattle.std.proofs.shelf.Tests.{false≢true}
 use Rattle.std.specs.declared.option.Option.the-variants.{None}
 use Rattle.guards.specs.Questions.{Rule}
 use Rattle.measure.specs.Measure.{Measure}
-use Rattle.measure.specs.Millimetres.{millimetres}
+use Rattle.millimetres.specs.Millimetres.{millimetres}
 use Rattle.rules.specs.Garments.{Value, built, measured, Place, allStand, allSteps}
 use Rattle.rules.specs.Sheets.{Pattern, gauge, matches, Bound, Answer, lost, question}
 use Rattle.rules.specs.Trees.{Tree, ask, treeAnswer}

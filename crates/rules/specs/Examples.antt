@@ -11,8 +11,8 @@ use Rattle.std.specs.declared.option.Option.the-variants.{Some, None}
 use Rattle.std.specs.declared.result.Result.{Result}
 use Rattle.std.specs.declared.result.Result.the-variants.{Ok, Err}
 use Rattle.measure.specs.Measure.{Measure}
-use Rattle.measure.specs.Millimetres.{millimetres}
-use Rattle.measure.specs.Labels.{labels}
+use Rattle.millimetres.specs.Millimetres.{millimetres}
+use Rattle.labels.specs.Labels.{labels}
 use Rattle.guards.specs.Questions.{Steps, Rule}
 use Rattle.pattern_file.specs.declared.entries.Entry.{Entry}
 use Rattle.pattern_file.specs.declared.names.CallName.the-variants as call

@@ -4,9 +4,9 @@ use Prim.Native.Nat.{ℕ, zero, suc}
 use lib.IntN.{ℤ, pos, negsuc}
 use lib.ListN.{replicate}
 use Rattle.measure.specs.Measure.{Measure}
-use Rattle.measure.specs.Millimetres.{millimetres}
-use Rattle.measure.specs.Labels.{labels}
-use Rattle.measure.specs.Joined.{joined}
+use Rattle.millimetres.specs.Millimetres.{millimetres}
+use Rattle.labels.specs.Labels.{labels}
+use Rattle.joined.specs.Joined.{joined}
 use Rattle.pattern_file.specs.declared.entries.Entry.{Entry}
 use Rattle.rules.specs.declared.rows.GarmentEntry.{GarmentEntry}
 use Rattle.rules.specs.Book.{Book, emptyBook}

@@ -6,14 +6,6 @@ pub mod Explore
 pub mod Theorems
 pub mod ProperRuns
 pub mod Verdicts
-pub mod Interned
-pub mod WorkMemory
-pub mod Budgets
-pub mod ShownAnswers
-pub mod ShownGarment
-pub mod ShownFits
-pub mod Judgement
-pub mod LawfulVerdicts
 pub mod Settle
 pub mod Left
 pub mod Quick

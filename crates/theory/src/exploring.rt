@@ -1,7 +1,5 @@
 // Exploring two runs by looks is exact, and so is the judge's verdict on them.
 ghost use Rattle.theory.specs.Theorems.{Exploring-exact};
-ghost use Rattle.theory.specs.LawfulVerdicts.{Verdicts-lawful};
-ghost use Rattle.theory.specs.Judgement.{Judging-exact, Judging-shows};
 ghost use Rattle.theory.specs.Verdicts.{Verdict-exact};
 ghost use Rattle.theory.specs.Quick.{Quick-holds};
 ghost use Rattle.theory.specs.Left.{Looks-fall};
@@ -16,27 +14,6 @@ pub fn exploring_exact() -> u8
 // Alike exactly where every well-typed garment and rule get the same answers.
 pub fn verdict_exact() -> u8
     ensures { λ _. ⌜ Verdict-exact ⌝ }
-{
-    0
-}
-
-// The same of a sheet and a tree that fit their types, by their answers to values.
-pub fn judging_exact() -> u8
-    ensures { λ _. ⌜ Judging-exact ⌝ }
-{
-    0
-}
-
-// Where they differ, a well-typed garment and listed answers that show it fit the memory.
-pub fn judging_shows() -> u8
-    ensures { λ _. ⌜ Judging-shows ⌝ }
-{
-    0
-}
-
-// The verdict on a workbook whose sheet and tree fit their types and keep the limits is what the law on runs asks of a judge.
-pub fn verdicts_lawful() -> u8
-    ensures { λ _. ⌜ Verdicts-lawful ⌝ }
 {
     0
 }

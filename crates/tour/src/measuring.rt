@@ -1,13 +1,13 @@
 // What a grader measured, as tests with their answers: a part that fits them.
+use joined::Joined;
+use joined::JoinedKind;
+use labels::Labels;
+use labels::LabelsKind;
 use measure::Ask;
-use measure::Joined;
-use measure::JoinedKind;
 use measure::Kind;
-use measure::Labels;
-use measure::LabelsKind;
-use measure::Millimetres;
-use measure::MillimetresKind;
 use measure::solve;
+use millimetres::Millimetres;
+use millimetres::MillimetresKind;
 use std::error::AnyError;
 
 // Prints the tests and an atom that answers them, or that there is none.

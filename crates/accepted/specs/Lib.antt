@@ -1,0 +1,3 @@
+-- What is stated of the workbooks that calls can make.
+pub mod Judgeable
+pub mod Releases

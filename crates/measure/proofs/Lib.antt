@@ -1,5 +1,0 @@
--- The lemmas of this crate.
-pub mod Intervals
-pub mod Digits
-pub mod Masks
-pub mod Sides

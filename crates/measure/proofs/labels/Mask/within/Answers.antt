@@ -1,7 +1,0 @@
--- The digits of `&`.
-use mathlib.Core.Path.{refl}
-use Rattle.measure.proofs.Masks.{chosen-and}
-use Rattle.measure.proofs.labels.Mask.within.Needs as need
-
-pub returns : need.returns
-returns c = record { of = refl; kept = chosen-and (c .args .self .bits) (c .args .set) }

@@ -1,7 +1,0 @@
--- The digits that `^` leaves.
-use mathlib.Core.Path.{refl}
-use Rattle.measure.proofs.Masks.{chosen-less}
-use Rattle.measure.proofs.labels.Mask.without.Needs as need
-
-pub returns : need.returns
-returns c = record { of = refl; kept = chosen-less (c .args .self .bits) (c .args .set) }

@@ -1,0 +1,21 @@
+-- The lemmas on what is shown.
+pub mod PathCounts
+pub mod WorkLayout
+pub mod SamePlaces
+pub mod PlacesLooked
+pub mod EachVerdict
+pub mod Listing
+pub mod AlwaysKnown
+pub mod LearntOnPath
+pub mod AskedWithin
+pub mod HeardAnswers
+pub mod EntryLists
+pub mod EntryTypes
+pub mod DefaultEntries
+pub mod PlaceEntries
+pub mod PlacesShown
+pub mod GarmentShown
+pub mod Picking
+pub mod ShownTogether
+pub mod Judgements
+pub mod LawfulVerdicts
