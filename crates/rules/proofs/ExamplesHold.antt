@@ -51,4 +51,17 @@ examples-hold = record {
   no-atom = refl;
   list-written = refl;
   none-written = (refl, refl);
+  rising-variables = refl;
+  fail-and-never = λ m v rule. (refl, refl);
+  none-same = tt;
+  lost-apart = small.lost-apart;
+  acting-apart = λ action ps. (λ h. h, λ h. h);
+  sixteen-levels = λ m. refl;
+  seventeen-levels = λ m. refl;
+  named-twice = λ m. refl;
+  pass-spent = λ b n o. (refl, refl);
+  pass-out = λ b w e n. refl;
+  unknown-tag = λ m. refl;
+  left-over = λ m. refl;
+  calls-stand = λ m. refl;
 }

@@ -12,8 +12,8 @@ use Rattle.guards.specs.Questions.{Rule}
 use Rattle.measure.specs.Measure.{Measure}
 use Rattle.millimetres.specs.Millimetres.{millimetres}
 use Rattle.rules.specs.Garments.{Value, built, measured, Place, allStand, allSteps}
-use Rattle.rules.specs.Sheets.{Pattern, gauge, matches, Bound, Answer, lost, question}
-use Rattle.rules.specs.Trees.{Tree, ask, treeAnswer}
+use Rattle.rules.specs.Sheets.{Pattern, gauge, matches, Bound, Answer, lost, question, acts, none}
+use Rattle.rules.specs.Trees.{Tree, ask, treeAnswer, Same}
 
 -- at most 100, and so at most 150
 within : (s : ℕ) (a : ℤ) → millimetres .passes s (pos 100) a ≡ true → millimetres .passes s (pos 150) a ≡ true
@@ -49,3 +49,9 @@ pub asked-twice : (m : Measure) (guard : ℕ) (ps : List Place) (y n n′ o : Tr
     → treeAnswer m (ask guard ps (ask guard ps y n) o) v rule ≡ treeAnswer m (ask guard ps (ask guard ps y n′) o) v rule
 asked-twice m guard ps y n n′ o v rule =
     twice (allStand v ps) (rule (question guard (allSteps ps))) (treeAnswer m y v rule) (treeAnswer m n v rule) (treeAnswer m n′ v rule) (treeAnswer m o v rule)
+
+-- a lost answer is the same as nothing
+pub lost-apart : (a : Answer) → (Same lost a → ⊥) × (Same a lost → ⊥)
+lost-apart (acts action ps) = (λ h. h, λ h. h)
+lost-apart none = (λ h. h, λ h. h)
+lost-apart lost = (λ h. h, λ h. h)

@@ -22,15 +22,15 @@ use Rattle.rules.specs.declared.rows.GarmentEntry.{GarmentEntry}
 use Rattle.rules.specs.Refusals.{refusalNumber}
 use Rattle.rules.specs.Book.{Book, emptyBook, schemaOf, fieldsOf, ownerOf}
 use Rattle.rules.specs.Garments.{Value, Values, built, measured, noValues, withValue, OfType, Place, whole, stepsOf, last, garmentValue, wellTyped}
-use Rattle.rules.specs.Sheets.{Pattern, either, gauge, patternsOf, weight, matches, Binding, listOf, field, question, Clause, acts, none, lost, sheetAnswer}
-use Rattle.rules.specs.Trees.{Tree, leaf, ask, placesOf, treeAnswer, Same}
+use Rattle.rules.specs.Sheets.{Pattern, either, gauge, patternsOf, weight, matches, Binding, listOf, field, question, Clause, Answer, acts, none, lost, sheetAnswer}
+use Rattle.rules.specs.Trees.{Tree, leaf, fail, never, ask, placesOf, treeAnswer, Same}
 use Rattle.rules.specs.AnswerRules.{differenceRule}
 use Rattle.rules.specs.Running.{writtenAnswer}
 use Rattle.rules.specs.Grounds.{stepCount}
-use Rattle.rules.specs.Calls.{make, refusalOf}
+use Rattle.rules.specs.Calls.{make, judge, release, withdraw, Outcome, alike, refusalOf, after}
 use Rattle.rules.specs.Files.{order, readEntries}
 use Rattle.rules.specs.Law.{sheetSays, treeSays, Alike}
-use Rattle.rules.specs.Samples.{_∶_, shopMeasure, sample, sampleBook, withLength, lengthEntries, bookOf, pairSheet, asksOnce, asksAgain, oneMeasure, deepPlaces, heavyPattern, manyTypes, missingBranch}
+use Rattle.rules.specs.Samples.{_∶_, shopMeasure, sample, sampleBook, withLength, lengthEntries, bookOf, pairSheet, asksOnce, asksAgain, oneMeasure, deepPlaces, heavyPattern, manyTypes, missingBranch, deepPatterns, namedTwice}
 
 -- ── words of the examples ──
 
@@ -162,3 +162,22 @@ pub record Examples : Type 0 where
   -- 13. An action's list is written as in a question without the guard; none and lost write nothing.
   pub list-written : writtenAnswer (acts 7 (secondField ∷ [] ∷ [])) ≡ 2 ∷ 1 ∷ 0 ∷ 1 ∷ 0 ∷ []
   pub none-written : (writtenAnswer none ≡ []) × (writtenAnswer lost ≡ [])
+  -- 14. A clause's list goes by rising variable, whatever was bound first.
+  pub rising-variables : listOf (record { variable = 1; place = field whole 0 1 } ∷ record { variable = 0; place = field whole 0 0 } ∷ []) ≡ firstField ∷ secondField ∷ []
+  -- 15. Fail answers none and never answers lost; none is the same as none, and lost as nothing, on either side.
+  pub fail-and-never : (m : Measure) (v : Value) (rule : Rule) → (treeAnswer m fail v rule ≡ none) × (treeAnswer m never v rule ≡ lost)
+  pub none-same : Same none none
+  pub lost-apart : (a : Answer) → (Same lost a → ⊥) × (Same a lost → ⊥)
+  pub acting-apart : (action : ℕ) (ps : List Steps) → (Same (acts action ps) none → ⊥) × (Same none (acts action ps) → ⊥)
+  -- 16. A pattern of 16 levels stands, and one of 17 is refused with 9.
+  pub sixteen-levels : (m : Measure) → IsRead m (deepPatterns 16) 19
+  pub seventeen-levels : (m : Measure) → IsStopped m (deepPatterns 17) 37 9
+  -- 17. A constructor twice in one switch is refused with 6.
+  pub named-twice : (m : Measure) → IsStopped m namedTwice 8 6
+  -- 18. Release and withdraw spend the pass, whatever comes of them; a judge that says alike hands one out.
+  pub pass-spent : (b : Book) (n : ℕ) (o : Outcome) → (after b (release n) o .out ≡ false) × (after b withdraw o .out ≡ false)
+  pub pass-out : (b : Book) (w e n : ℕ) → after b (judge w e n) alike .out ≡ true
+  -- 19. A fault of the file is refused with 10: an unknown tag at its entry, numbers left over at the end; the calls before it stand.
+  pub unknown-tag : (m : Measure) → IsStopped m (1 ∶ negsuc 0 ∷ 16 ∶ pos 0 ∷ []) 1 10
+  pub left-over : (m : Measure) → IsStopped m (1 ∶ negsuc 0 ∷ 0 ∶ pos 5 ∷ []) 2 10
+  pub calls-stand : (m : Measure) → bookOf m (1 ∶ negsuc 0 ∷ 16 ∶ pos 0 ∷ []) .types ≡ Choice ∷ []

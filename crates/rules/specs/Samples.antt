@@ -119,3 +119,15 @@ missingBranch =
     ∷ 3 ∶ pos 0 ∷ 0 ∶ pos 0 ∷ 0 ∶ negsuc 0 ∷ 8 ∶ pos 8
     ∷ 10 ∶ pos 8 ∷ 0 ∶ negsuc 0 ∷ 0 ∶ pos 0 ∷ 0 ∶ pos 0 ∷ 13 ∶ pos 0
     ∷ []
+
+-- so many builds, each of the one below it, on a constructor that has a field of its own type
+abbrev pub buildsUp : ℕ → ℕ → List Entry
+buildsUp zero below = []
+buildsUp (suc n) below = 0 ∶ pos below ∷ 5 ∶ pos 0 ∷ buildsUp n (suc below)
+
+abbrev pub deepPatterns : ℕ → List Entry
+deepPatterns n = 1 ∶ negsuc 0 ∷ 0 ∶ pos 0 ∷ 2 ∶ pos 0 ∷ 3 ∶ pos 0 ∷ buildsUp n 0
+
+-- a switch that names constructor 0 twice
+abbrev pub namedTwice : List Entry
+namedTwice = 1 ∶ negsuc 0 ∷ 2 ∶ pos 0 ∷ 11 ∶ pos 0 ∷ 0 ∶ negsuc 0 ∷ 0 ∶ pos 0 ∷ 0 ∶ pos 0 ∷ 0 ∶ pos 0 ∷ 0 ∶ pos 0 ∷ 13 ∶ pos 0 ∷ []
