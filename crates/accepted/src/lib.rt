@@ -1,4 +1,6 @@
 // What the calls accept fits the theory: the sheet and the tree of every workbook that calls can make may be judged.
+#![tactic(auto)]
+
 ghost use Rattle.accepted.specs.Judgeable.{ReachedJudgeable, ReachedLawful};
 
 pub mod releases;

@@ -1,4 +1,6 @@
 // The text of a pattern file: a line for each of its calls, then how it ended.
+#![tactic(auto)]
+
 ghost use Rattle.std.specs.Prelude.{◌≡◌, ◌++◌, IfOk, string_bytes, OnOk};
 ghost use Rattle.std.specs.List.{flat_map};
 ghost use Rattle.pattern_file.specs.Calls.{numbers_put};

@@ -1,4 +1,6 @@
 // Questions that a guard asks about places, their written form, and hosts that answer them.
+#![tactic(auto)]
+
 ghost use Rattle.std.specs.Prelude.{◌≡◌, Bool, List, [], ◌∷◌};
 ghost use Rattle.guards.specs.Hosts.{Asked, Moves};
 ghost use Rattle.guards.specs.Questions.{Question};

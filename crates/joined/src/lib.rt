@@ -1,4 +1,6 @@
 // Two kinds as one.
+#![tactic(auto)]
+
 ghost use Rattle.joined.specs.Joined.{joined, either_sort, either_holds};
 ghost use Rattle.joined.specs.Sides.{joined-Lawful};
 ghost use Rattle.std.proofs.Common.{rules};

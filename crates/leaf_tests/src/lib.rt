@@ -1,4 +1,6 @@
 // Tests of the kinds of measure, of questions and hosts, and of pattern files, at their edges.
+#![tactic(auto)]
+
 #[cfg(test)]
 mod answers;
 #[cfg(test)]

@@ -1,4 +1,6 @@
 // Lists the calls of a pattern file that is read from standard input.
+#![tactic(auto)]
+
 use file_listing::listing;
 use pattern_file::{FileFault, FormatFault, count_calls};
 use std::io::Read;

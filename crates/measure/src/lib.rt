@@ -1,4 +1,6 @@
 // Kinds of measure: what a kind promises (the trait `Kind`), and what is done alike with any of them.
+#![tactic(auto)]
+
 ghost use Rattle.std.specs.Prelude.{◌≡◌, ℕ, Bool, true, false, ◌&&◌, ℤ, MatchOption};
 ghost use Rattle.measure.specs.Measure.{Measure, Lawful, gives};
 

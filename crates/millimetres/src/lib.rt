@@ -1,4 +1,6 @@
 // Lengths in whole millimetres, with tests of the form "at most".
+#![tactic(auto)]
+
 ghost use Rattle.std.specs.Prelude.{◌≡◌, not, ◌&&◌, ℤ, pos, negsuc, ◌+ℤ◌, ◌≤ℤ◌};
 ghost use Rattle.millimetres.specs.Millimetres.{measurable, limit, interval, millimetres};
 ghost use Rattle.millimetres.specs.Intervals.{millimetres-Lawful};

@@ -1,4 +1,6 @@
 // The format of a pattern file: its entries, the calls that they make, a reader and a writer.
+#![tactic(auto)]
+
 pub mod calls;
 pub mod entries;
 pub mod faults;

@@ -1,5 +1,7 @@
 // The subject's rules: the rows that a workbook holds, and in specs/ the meaning of everything.
 // The functions of matching, places, examples and round_trip name the theorems that make the definitions believable.
+#![tactic(auto)]
+
 pub mod examples;
 pub mod matching;
 pub mod places;
