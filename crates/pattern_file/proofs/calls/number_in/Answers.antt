@@ -5,12 +5,12 @@ use Rattle.pattern_file.specs.Bytes.{whole_numbers}
 use Rattle.pattern_file.proofs.ByteNumbers.{nth_numbers_in, length-numbers_in, signed_passed}
 use Rattle.pattern_file.proofs.calls.number_in.Goals as goal
 
-pub returns-then-i-count-in : goal.returns-then-i-count-in
-returns-then-i-count-in c =
+pub returns-then-i-count_in : goal.returns-then-i-count_in
+returns-then-i-count_in c =
     let b = c.args.bytes.now in
-    ap Some (signed_passed b (8 * c.args.i) c.signed-at.result c.signed-at.ensures) ∙ sym (nth_numbers_in (length b / 8) b c.args.i (omega arith))
+    ap Some (signed_passed b (8 * c.args.i) c.signed_at.result c.signed_at.ensures) ∙ sym (nth_numbers_in (length b / 8) b c.args.i (omega arith))
 
-pub returns-else-i-count-in : goal.returns-else-i-count-in
-returns-else-i-count-in c =
+pub returns-else-i-count_in : goal.returns-else-i-count_in
+returns-else-i-count_in c =
     let b = c.args.bytes.now in
     sym (slice_get_past (whole_numbers b) c.args.i (omega (arith, length-numbers_in (length b / 8) b)))

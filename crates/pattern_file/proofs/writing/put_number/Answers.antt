@@ -6,4 +6,4 @@ use Rattle.pattern_file.proofs.writing.put_number.Goals as goal
 
 pub returns : goal.returns
 unfolding signed_bytes
-returns c = ap (λ l. l ++ drop 8 c.args.out.now) (c.copy-from-slice.ensures.after ∙ c.to-le-bytes.ensures ∙ sym (bytes8 _) ∙ ap signed_bytes (to_z-of_z c.ranges.number))
+returns c = ap (λ l. l ++ drop 8 c.args.out.now) (c.copy_from_slice.ensures.after ∙ c.to_le_bytes.ensures ∙ sym (bytes8 _) ∙ ap signed_bytes (to_z-of_z c.ranges.number))

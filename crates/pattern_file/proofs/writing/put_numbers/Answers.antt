@@ -16,7 +16,7 @@ loop-i-preserved c =
     let none : Entry = record { tag = 0; number = pos 0 } in
     let z : ℤ = (get_or es c.loop-i.i none).number in
     let fits : SFits w64 z = search rules in (
-      numbers_more es c.args.out.now c.loop-i.i none c.loop-i-test.true c.loop-i.out c.put-number.new.out (to_z w64 (of_z w64 z)) (to_z-of_z w64 z fits) c.loop-i.invariant.0 c.put-number.ensures,
+      numbers_more es c.args.out.now c.loop-i.i none c.loop-i-test.true c.loop-i.out c.put_number.new.out (to_z w64 (of_z w64 z)) (to_z-of_z w64 z fits) c.loop-i.invariant.0 c.put_number.ensures,
       All-more (λ (e : Entry). SFits w64 e.number) es c.loop-i.i none c.loop-i-test.true c.loop-i.invariant.1 fits,
     )
 

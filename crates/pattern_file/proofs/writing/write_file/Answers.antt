@@ -9,12 +9,12 @@ use Rattle.pattern_file.proofs.writing.write_file.Goals as goal
 pub returns : goal.returns
 returns c =
     let es = c.args.entries.now in
-    let sized = c.in-ok-size.ensures.value in
+    let sized = c.in_ok-size.ensures.value in
     let few : length es ≤ max_entries = search rules in
-    let size : c.in-ok-size.size ≡ file_length (length es) = search rules in
-    let file = file_is es c.args.out.now c.copy-from-slice.new.self c.put-tags.new.out c.put-numbers.new.out _ c.in-ok-size.size
-    (c.copy-from-slice.ensures.after ∙ c.to-le-bytes.ensures ∙ sym (bytes4 (length es))) size c.put-tags.ensures refl c.put-numbers.ensures.bytes in
+    let size : c.in_ok-size.size ≡ file_length (length es) = search rules in
+    let file = file_is es c.args.out.now c.copy_from_slice.new.self c.put_tags.new.out c.put_numbers.new.out _ c.in_ok-size.size
+    (c.copy_from_slice.ensures.after ∙ c.to_le_bytes.ensures ∙ sym (bytes4 (length es))) size c.put_tags.ensures refl c.put_numbers.ensures.bytes in
     record {
-      value = written_is es c.args.out.now _ c.in-ok-size.size few size c.if-out-size.false file;
-      read_back = front_reads_back es _ _ c.in-ok-size.size few c.put-numbers.ensures.fit size file;
+      value = written_is es c.args.out.now _ c.in_ok-size.size few size c.if-out-size.false file;
+      read_back = front_reads_back es _ _ c.in_ok-size.size few c.put_numbers.ensures.fit size file;
     }

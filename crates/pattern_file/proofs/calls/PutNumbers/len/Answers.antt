@@ -4,4 +4,4 @@ use Rattle.pattern_file.proofs.ByteNumbers.{length-numbers_in}
 use Rattle.pattern_file.proofs.calls.PutNumbers.len.Goals as goal
 
 pub returns : goal.returns
-returns c = c.count-in.ensures ∙ sym (length-numbers_in _ c.args.self.now.bytes.now)
+returns c = c.count_in.ensures ∙ sym (length-numbers_in _ c.args.self.now.bytes.now)

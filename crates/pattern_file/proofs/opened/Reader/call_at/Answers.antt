@@ -8,5 +8,5 @@ pub returns : goal.returns
 returns c =
     let b = c.args.self.now.numbers.now in
     let e = c.args.entry in
-    taken _ b c.args.start e c.args.name c.new.result c.new.ensures (signed_passed b (8 * e) c.signed-at-own.result c.signed-at-own.ensures)
+    taken _ b c.args.start e c.args.name c.new.result c.new.ensures (signed_passed b (8 * e) c.signed_at-own.result c.signed_at-own.ensures)
     (part_numbers b c.args.start e c.requires.0 (search rules))
