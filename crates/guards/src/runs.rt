@@ -13,9 +13,9 @@ use crate::written::WrittenQuestion;
 
 /// The index of the first question that gets a yes; no question after it is asked.
 pub fn first_yes<H: Host>(host: &mut H, questions: &[WrittenQuestion<'_>]) -> Option<usize>
-    ensures answer { result ≡ first_yes (rule host.old) (map question_of questions.now) }
-    ensures same { rule host.new ≡ rule host.old }
-    ensures noted { moved host.old (answered (rule host.old) (until_yes (rule host.old) (map question_of questions.now))) host.new }
+    ensures answer { result ≡ first_yes (H.rule host.old) (map question_of questions.now) }
+    ensures same { H.rule host.new ≡ H.rule host.old }
+    ensures noted { H.moved host.old (answered (H.rule host.old) (until_yes (H.rule host.old) (map question_of questions.now))) host.new }
 {
     for i in 0..questions.len() {
         if host.ask(&questions[i]) {

@@ -8,8 +8,8 @@ loop-entry-smaller c = entry_shorter c.loop-entry.rest.now _ _ (sym c.in-Some.en
 
 pub loop-entry-preserved : goal.loop-entry-preserved
 loop-entry-preserved c =
-    sym (rule_miss c.loop-entry.rest.now _ _ _ (sym c.in-Some.ensures) (no_from_false _ _ c.same-as.ensures c.if-same-as.false)) ∙ c.loop-entry.invariant
+    sym (rule_miss c.loop-entry.rest.now _ _ _ (sym c.in-Some.ensures) (no_from_false _ _ c.same_as.ensures c.if-same_as.false)) ∙ c.loop-entry.invariant
 
-pub returns-then-same-as : goal.returns-then-same-as
-returns-then-same-as c =
-    sym (rule_hit c.loop-entry.rest.now _ _ _ (sym c.in-Some.ensures) (c.same-as.ensures.0 c.if-same-as.true)) ∙ c.loop-entry.invariant
+pub returns-then-same_as : goal.returns-then-same_as
+returns-then-same_as c =
+    sym (rule_hit c.loop-entry.rest.now _ _ _ (sym c.in-Some.ensures) (c.same_as.ensures.0 c.if-same_as.true)) ∙ c.loop-entry.invariant

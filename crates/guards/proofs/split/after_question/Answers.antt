@@ -7,4 +7,4 @@ use Rattle.guards.proofs.split.after_question.Goals as goal
 pub returns : goal.returns
 returns c =
     let l = c.args.numbers.now in
-    c.after-places.ensures ∙ ap (after_places c.args.most _) (take_rest l 2) ∙ question_after c.args.most l (omega (arith, ltb-false)) c.if-count-gt4.false
+    c.after_places.ensures ∙ ap (after_places c.args.most _) (take_rest l 2) ∙ question_after c.args.most l (omega (arith, ltb-false)) c.if-count-gt4.false

@@ -11,6 +11,6 @@ returns-then-out-end c =
 pub returns : goal.returns
 returns c =
     record {
-      written = answer_put _ c.args.answer c.args.out.now _ _ _ _ _ c.numbers-numbers.ensures.value c.copy-from-slice.ensures.after c.from.ensures refl (omega arith) c.if-out-end.false;
+      written = answer_put _ c.args.answer c.args.out.now _ _ _ _ _ c.numbers-numbers.ensures.value c.copy_from_slice.ensures.after c.from.ensures refl (omega arith) c.if-out-end.false;
       law = listed_form;
     }

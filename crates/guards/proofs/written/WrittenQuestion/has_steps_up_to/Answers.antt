@@ -10,6 +10,6 @@ returns c =
     let l = c.args.self.now.numbers.now in
     let m = c.numbers.result.now in
     let most = c.args.most in
-    let told : is_some (read_question most m) ≡ c.is-some.result =
-    sym (some_mapped _ (read_question most m)) ∙ ap is_some (sym c.after-question.ensures) ∙ some_mapped _ c.after-question.result ∙ sym c.is-some.ensures in
+    let told : is_some (read_question most m) ≡ c.is_some.result =
+    sym (some_mapped _ (read_question most m)) ∙ ap is_some (sym c.after_question.ensures) ∙ some_mapped _ c.after_question.result ∙ sym c.is_some.ensures in
     subst (λ (b : Bool). Decides b (Within most (question_in l))) told (short_read most l m (omega arith) c.numbers.ensures.value)
