@@ -13,7 +13,7 @@ pub struct Ask {
 
 // The atoms of the sort that answer every test as wanted.
 fn narrowed<K: Kind>(kind: &K, sort: u16, asks: &[Ask]) -> K::Region
-    ensures { (n : ℤ) → holds kind.now result n ≡ answers (meaning kind.now) sort n asks.now }
+    ensures { (n : ℤ) → K.holds kind.now result n ≡ answers (K.meaning kind.now) sort n asks.now }
 {
     let mut region = kind.whole(sort);
     for ask in asks {
@@ -24,15 +24,15 @@ fn narrowed<K: Kind>(kind: &K, sort: u16, asks: &[Ask]) -> K::Region
 
 // An atom of the sort that answers every test as wanted, or `None` where it has none. Which atom is as free as in `pick`.
 pub fn solve<K: Kind>(kind: &K, sort: u16, asks: &[Ask]) -> Option<i64>
-    ensures { MatchOption result ((n : ℤ) → answers (meaning kind.now) sort n asks.now ≡ false) (λ n. answers (meaning kind.now) sort n asks.now ≡ true) }
+    ensures { MatchOption result ((n : ℤ) → answers (K.meaning kind.now) sort n asks.now ≡ false) (λ n. answers (K.meaning kind.now) sort n asks.now ≡ true) }
 {
     kind.pick(&narrowed(kind, sort, asks))
 }
 
 // An atom of the sort, or `None` where the kind does not serve it. Which atom is as free as in `pick`.
 pub fn any_atom<K: Kind>(kind: &K, sort: u16) -> Option<i64>
-    ensures served { is_some result ≡ (meaning kind.now).serves sort }
-    ensures atom { IfSome result (λ n. (meaning kind.now).atom sort n ≡ true) }
+    ensures served { is_some result ≡ (K.meaning kind.now).serves sort }
+    ensures atom { IfSome result (λ n. (K.meaning kind.now).atom sort n ≡ true) }
 {
     kind.pick(&kind.whole(sort))
 }
