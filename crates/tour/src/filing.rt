@@ -1,4 +1,5 @@
 // A sheet and a tree as the entries of a pattern file, which is written, read again and listed.
+use anyhow::anyhow;
 use file_listing::listing;
 use pattern_file::{Entry, WriteRefusal, write_file};
 
@@ -45,8 +46,8 @@ const SAMPLE: [Entry; 31] = [
 
 fn refusal(refused: WriteRefusal) -> anyhow::Error {
     match refused {
-        WriteRefusal::TooManyEntries => "too many entries".into(),
-        WriteRefusal::OutTooShort => "too little memory".into(),
+        WriteRefusal::TooManyEntries => anyhow!("too many entries"),
+        WriteRefusal::OutTooShort => anyhow!("too little memory"),
     }
 }
 
