@@ -1,8 +1,6 @@
 -- Small examples that compute.
 use Rattle.std.proofs.Common.{◌≡◌, ℕ, true, false, List, [], ◌∷◌, Some, None, refl}
-use Rattle.guards.specs.declared.step.Step.{Step}
 use Rattle.guards.specs.Questions.{Question, written, reading}
-use Rattle.guards.specs.Hosts.{Asked}
 use Rattle.guards.specs.Listed.{answers_in, listed_rule}
 
 -- guard 7 asks about the root, and about field 2 of constructor 1

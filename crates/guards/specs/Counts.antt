@@ -1,6 +1,6 @@
 -- What a counting host holds.
 use Rattle.std.specs.Prelude.{◌≡◌, ℕ, ◌+◌, min, List, [], ◌∷◌, ◌++◌, refl}
-use Rattle.std.proofs.Common.{sym, ap, ◌∙◌}
+use Rattle.std.proofs.Common.{ap, ◌∙◌}
 use Rattle.guards.specs.Hosts.{Asked, Moves}
 use Rattle.guards.specs.declared.counting.Counting.{Counting}
 

@@ -1,5 +1,5 @@
 -- What writing into lent numbers leaves.
-use Rattle.std.specs.Prelude.{ℕ, Bool, cond, List, [], ◌∷◌, ◌++◌, length, drop, Some, None, Option, nat_le}
+use Rattle.std.specs.Prelude.{ℕ, cond, List, [], ◌∷◌, ◌++◌, length, drop, Some, None, Option, nat_le}
 use Rattle.guards.specs.Hosts.{Asked}
 use Rattle.guards.specs.Listed.{written_answers}
 use Rattle.guards.specs.Questions.{Steps, written_places}

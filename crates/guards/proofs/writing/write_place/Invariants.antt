@@ -1,5 +1,5 @@
 -- The steps so far stand at the front, and the rest is unchanged.
-use Rattle.std.proofs.Common.{◌≡◌, ◌+◌, ◌*◌, ◌≤◌, ◌∷◌, ◌++◌, length, take, drop}
+use Rattle.std.proofs.Common.{◌≡◌, ◌+◌, ◌*◌, ◌∷◌, ◌++◌, length, take, drop}
 use Rattle.guards.specs.Questions.{written_steps}
 use Rattle.guards.proofs.writing.write_place.Given as goal
 

@@ -1,5 +1,5 @@
 -- The numbers before the rest are the question at the front.
-use Rattle.std.proofs.Common.{sym, ap, ◌∙◌, arith}
+use Rattle.std.proofs.Common.{sym, arith}
 use Rattle.guards.proofs.Reading.{rest_shorter, front_is}
 use Rattle.guards.proofs.written.split_question.Goals as goal
 
