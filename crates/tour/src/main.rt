@@ -1,7 +1,6 @@
 // A tour of what there is: a measured part is narrowed and picked, guards are answered from a list, and a file is written, read and listed.
 #![tactic(auto)]
 
-
 mod answering;
 mod filing;
 mod measuring;
