@@ -2,7 +2,6 @@
 use file_listing::listing;
 use pattern_file::{Entry, FileFault, FormatFault, WriteRefusal, count_calls, write_file};
 use std::alloc::Global;
-use std::process::Abort;
 use std::test::Fail;
 
 // Two types and two constructors, the second with a field of type 1.
@@ -23,10 +22,13 @@ fn file_of(heap: Global, entries: &[Entry]) -> Result<Vec<u8>, Fail> {
     Ok(bytes)
 }
 
-fn listed(rt: &impl Abort, heap: Global, bytes: &[u8], wanted: &str) -> Result<(), Fail> {
+fn listed(heap: Global, bytes: &[u8], wanted: &str) -> Result<(), Fail> {
     let text = listing(heap, bytes)?;
-    assert!(rt; text.as_str() == wanted);
-    Ok(())
+    if text.as_str() == wanted {
+        Ok(())
+    } else {
+        Err(Fail::new("another listing"))
+    }
 }
 
 fn fault(entry: usize, fault: FormatFault) -> Result<usize, FileFault> {
@@ -37,7 +39,6 @@ fn fault(entry: usize, fault: FormatFault) -> Result<usize, FileFault> {
 fn a_short_file_is_listed(rt: HostRuntime) -> Result<(), Fail> {
     let bytes = file_of(rt.alloc(), &FIVE)?;
     listed(
-        &rt,
         rt.alloc(),
         bytes.as_slice(),
         "0 type -1\n1 type 0\n2 constructor 0\n4 constructor 0 1\ncalls 4\n",
@@ -50,7 +51,7 @@ fn a_short_file_is_listed(rt: HostRuntime) -> Result<(), Fail> {
 fn no_entry_is_a_file(rt: HostRuntime) -> Result<(), Fail> {
     let bytes = file_of(rt.alloc(), &[])?;
     assert!(rt; bytes.len() == 4);
-    listed(&rt, rt.alloc(), bytes.as_slice(), "calls 0\n")
+    listed(rt.alloc(), bytes.as_slice(), "calls 0\n")
 }
 
 #[test]
@@ -63,7 +64,6 @@ fn every_cut_is_found(rt: HostRuntime) -> Result<(), Fail> {
         );
     }
     listed(
-        &rt,
         rt.alloc(),
         &bytes.as_slice()[0..bytes.len() - bytes.len().min(1)],
         "refused 10 0\n",
@@ -74,7 +74,6 @@ fn every_cut_is_found(rt: HostRuntime) -> Result<(), Fail> {
 fn numbers_are_left_over(rt: HostRuntime) -> Result<(), Fail> {
     let bytes = file_of(rt.alloc(), &FIVE[0..4])?;
     listed(
-        &rt,
         rt.alloc(),
         bytes.as_slice(),
         "0 type -1\n1 type 0\n2 constructor 0\nrefused 10 4\n",
@@ -94,12 +93,7 @@ fn a_tag_is_unknown(rt: HostRuntime) -> Result<(), Fail> {
         count_calls(bytes.as_slice()),
         fault(2, FormatFault::UnknownTag)
     );
-    listed(
-        &rt,
-        rt.alloc(),
-        bytes.as_slice(),
-        "0 type -1\nrefused 10 2\n",
-    )
+    listed(rt.alloc(), bytes.as_slice(), "0 type -1\nrefused 10 2\n")
 }
 
 #[test]
