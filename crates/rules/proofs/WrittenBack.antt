@@ -5,7 +5,7 @@ use Rattle.std.proofs.lemmas.Bool.{true≢false, not-false, eqb-true, eqb-false,
 use Rattle.measure.specs.Measure.{Measure}
 use Rattle.pattern_file.specs.declared.names.CallName.TheVariants as call
 use Rattle.rules.specs.declared.rows.PairRow.{PairRow}
-use Rattle.rules.specs.declared.rows.NodeRow.TheVariants.{Leaf, Fail, Never, Switch, Test, Ask}
+use Rattle.rules.specs.declared.rows.NodeRow.TheVariants.{Fail, Never}
 use Rattle.rules.specs.Tables.{natural, naturals, under, named, numbers_of, up_to_four}
 use Rattle.rules.specs.Book.{Book, fields_in}
 use Rattle.rules.specs.Rows.{optional, type_row, constructor_row, place_row, leaf_row, pair_rows, switch_row, test_row, ask_row}

@@ -1,5 +1,5 @@
 -- What holds of all that is ever known while two runs are explored.
-use Rattle.std.proofs.Common.{◌≡◌, ℕ, ◌+◌, ◌≤◌, Bool, true, false, arith}
+use Rattle.std.proofs.Common.{ℕ, ◌+◌, ◌≤◌, Bool, true, false, arith}
 use Rattle.theory.specs.Runs.{Look, Run, done, look}
 use Rattle.theory.specs.Knowledge.{Knowledge, learn}
 use Rattle.shown.specs.Budgets.{most_on_path, EveryLook, learnt, SecondAlways, Always}

@@ -16,7 +16,7 @@ use Rattle.theory.specs.Verdicts.{SameAnswers, Apart, VerdictRight}
 use Rattle.shown.specs.ShownAnswers.{shown_answers}
 use Rattle.shown.specs.ShownGarment.{shown_garment}
 use Rattle.shown.specs.ShownFits.{places_listed, ShownInMemory}
-use Rattle.shown.specs.Judgement.{judged, AnswerAlike, Judgement, JudgingExact, ShownApart, JudgingShows}
+use Rattle.shown.specs.Judgement.{judged, AnswerAlike, JudgingExact, JudgingShows}
 use Rattle.theory.proofs.TreeAnswers.{runs_answer}
 use Rattle.theory.proofs.ProperRuns.{runs_proper}
 use Rattle.theory.proofs.Verdicts.{alike≢differs}

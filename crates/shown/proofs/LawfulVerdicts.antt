@@ -1,5 +1,5 @@
 -- The verdict on a workbook, in the terms of the law on runs.
-use Rattle.std.proofs.Common.{◌≡◌, ℕ, List, ℤ, Some, Option, sym, refl, ap, ◌∙◌, subst}
+use Rattle.std.proofs.Common.{◌≡◌, ℕ, List, ℤ, Option, sym, refl, ap, subst}
 use Rattle.measure.specs.Measure.{Measure, Lawful}
 use Rattle.guards.specs.Questions.{Rule}
 use Rattle.guards.specs.Listed.{listed_rule}
@@ -7,15 +7,14 @@ use Rattle.rules.specs.Book.{Book, schema_of}
 use Rattle.rules.specs.Garments.{Value, Place, garment_value}
 use Rattle.rules.specs.Sheets.{Answer, clauses_of, sheet_answer}
 use Rattle.rules.specs.Trees.{Tree, start_of, tree_answer, Same}
-use Rattle.rules.specs.Law.{Alike, Shown, start_answer, sheet_says, tree_says}
+use Rattle.rules.specs.Law.{Alike, Shown, start_answer}
 use Rattle.rules.proofs.WellTyped.{garments_are_values}
 use Rattle.theory.specs.Knowledge.{Knowledge}
 use Rattle.theory.specs.Explore.{Verdict, alike, differs}
-use Rattle.theory.specs.Verdicts.{Apart}
 use Rattle.shown.specs.ShownAnswers.{shown_answers}
 use Rattle.shown.specs.ShownGarment.{Picks, shown_garment}
 use Rattle.shown.specs.ShownFits.{places_listed}
-use Rattle.shown.specs.Judgement.{judged, Judgement, ShownApart}
+use Rattle.shown.specs.Judgement.{judged, Judgement}
 use Rattle.shown.specs.LawfulVerdicts.{Judgeable, LawfulVerdict, VerdictsLawful}
 use Rattle.shown.proofs.Judgements.{judging_exact, judging_shows, judged_apart}
 use Rattle.shown.proofs.ShownTogether.{shown_fits_memory}

@@ -1,6 +1,6 @@
 -- Places that are the same, listed places, and lists of places in order.
-use Rattle.std.proofs.Common.{◌≡◌, ℕ, suc, ◌+◌, true, false, not, ◌&&◌, eqb, ◌⊎◌, List, [], ◌∷◌, ◌++◌, sym, refl, ap, subst, ap₂, inl, inr, ⊎_elim, arith}
-use Rattle.std.proofs.lemmas.Bool.{false≢true, eqb-true, eq-eqb, and_parts, and_from, or_cases, or_left, or_right, or_from, or_parts, not-true, not_from_false, both_ways, cases_Bool}
+use Rattle.std.proofs.Common.{◌≡◌, ℕ, suc, true, false, not, ◌⊎◌, List, [], ◌∷◌, ◌++◌, sym, refl, ap, subst, inl, inr, ⊎_elim, arith}
+use Rattle.std.proofs.lemmas.Bool.{false≢true, and_parts, and_from, or_cases, or_left, or_right, or_from, or_parts, not-true, not_from_false, both_ways, cases_Bool}
 use Rattle.guards.specs.declared.step.Step.{Step}
 use Rattle.rules.specs.Garments.{Place, whole, below}
 use Rattle.theory.specs.Knowledge.{same_place}

@@ -1,5 +1,5 @@
 -- How many looks one way through a sheet and a tree takes at most, and at how many places.
-use Rattle.std.specs.Prelude.{◌≡◌, ℕ, suc, ◌+◌, ◌*◌, ◌<◌, ◌≤◌, max, Bool, true, false, ◌&&◌, List, [], ◌∷◌, ◌++◌, length}
+use Rattle.std.specs.Prelude.{◌≡◌, ℕ, suc, ◌+◌, ◌<◌, ◌≤◌, max, Bool, true, false, ◌&&◌, List, [], ◌∷◌, ◌++◌, length}
 use Rattle.measure.specs.Measure.{Measure}
 use Rattle.rules.specs.Book.{Schema, most_clauses}
 use Rattle.rules.specs.Garments.{Place, whole}

@@ -12,7 +12,7 @@ use Rattle.theory.specs.Inhabited.{inhabited}
 use Rattle.theory.specs.Knowledge.{Knowledge, Fits, Good}
 use Rattle.theory.specs.Explore.{Verdict, alike, differs, explore, Proper}
 use Rattle.theory.specs.Theorems.{Exact, ExploringExact}
-use Rattle.theory.specs.Verdicts.{verdict, SameAnswers, Apart, VerdictRight, Knowing, VerdictExact}
+use Rattle.theory.specs.Verdicts.{SameAnswers, Apart, VerdictRight, Knowing, VerdictExact}
 use Rattle.theory.proofs.Inhabiting.{inhabited_exactly}
 use Rattle.theory.proofs.Telling.{tells_right}
 use Rattle.theory.proofs.Starting.{start_fits_all}

@@ -2,9 +2,8 @@
 use Rattle.std.proofs.Common.{◌≡◌, ℕ, Bool, true, false, cond, not, ◌&&◌, ◌||◌, eqb, [], ◌∷◌, length, ℤ, is_some, Some, None, filter, Option, sym, refl, ap, ◌∙◌}
 use mathlib.Core.Path.{fun_ext}
 use Rattle.std.specs.List.{slice_get}
-use Rattle.std.proofs.lemmas.Bool.{both_ways, and_parts, and_from, eqb-true, eq-eqb, or_left, or_right}
+use Rattle.std.proofs.lemmas.Bool.{both_ways, or_left, or_right}
 use Rattle.measure.specs.Measure.{Measure, gives}
-use Rattle.guards.specs.declared.step.Step.{Step}
 use Rattle.guards.specs.Questions.{Question, and_then}
 use Rattle.rules.specs.Book.{Schema, fields_of, sort_of}
 use Rattle.rules.specs.Garments.{Place, whole, below, place_type}

@@ -7,7 +7,7 @@ use Rattle.rules.specs.Book.{Schema, fields_of}
 use Rattle.rules.specs.Garments.{Value, Values, built, measured, no_values, with_value, Place, whole, field_at, step_into, part_at, built_by, OfType, OfTypes}
 use Rattle.rules.specs.Sheets.{Pattern, Patterns, any, bind, build, either, gauge, no_patterns, with_pattern, Binding, Bound, both, binding, or_else, field, matches, matches_all, Clause, list_of, Answer, acts, question, tried, sheet_answer}
 use Rattle.rules.specs.Trees.{passes_at}
-use Rattle.theory.specs.Runs.{passes, Run, World, execute, world_of, pattern_run, patterns_run, guarded_run, sheet_run, PatternFits, PatternsFit, SheetFits}
+use Rattle.theory.specs.Runs.{Run, World, execute, world_of, pattern_run, patterns_run, guarded_run, sheet_run, PatternFits, PatternsFit, SheetFits}
 use Rattle.theory.proofs.Facts.{choice≢measured}
 
 -- ── going on by what was bound ──

@@ -1,5 +1,5 @@
 -- Lemmas on verdicts, on answers that are the same, and on going on by what is known.
-use Rattle.std.proofs.Common.{◌≡◌, Bool, true, false, cond, eqb, ◌⊎◌, is_some, Some, None, sym, refl, ap, inl, inr}
+use Rattle.std.proofs.Common.{◌≡◌, Bool, true, false, cond, eqb, ◌⊎◌, sym, refl, ap, inl, inr}
 use Rattle.std.proofs.lemmas.Bool.{true≢false, false≢true, both_ways, and_parts, and_from, eqb-true, eq-eqb}
 use Rattle.guards.specs.Questions.{Question, same_question}
 use Rattle.guards.proofs.Listing.{same_decides}

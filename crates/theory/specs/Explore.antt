@@ -1,5 +1,5 @@
 -- Exploration: following two runs as far as knowledge decides, and learning each open look both ways.
-use Rattle.std.specs.Prelude.{◌≡◌, ℕ, Bool, true, false, cond, ◌&&◌, Some, None, Option, ◌==◌}
+use Rattle.std.specs.Prelude.{◌≡◌, Bool, true, false, cond, ◌&&◌, Some, None, Option, ◌==◌}
 use Rattle.measure.specs.Measure.{Measure}
 use Rattle.guards.specs.Questions.{same_question}
 use Rattle.rules.specs.Book.{Schema}

@@ -1,8 +1,7 @@
 -- Looks and runs: what a form of rules looks at next depends only on the answers so far, and so does its answer at last.
 use Rattle.std.specs.Prelude.{◌≡◌, ℕ, suc, Bool, cond, List, [], ◌∷◌, ◌++◌, ℤ, Some, None, Option}
 use Rattle.measure.specs.Measure.{Measure}
-use Rattle.guards.specs.Questions.{Question, Rule, Steps}
-use Rattle.rules.specs.declared.rows.TypeRow.{TypeRow}
+use Rattle.guards.specs.Questions.{Question, Rule}
 use Rattle.rules.specs.declared.rows.TypeRow.TheVariants.{Choice, Measured}
 use Rattle.rules.specs.Book.{Schema, fields_of, owner_of}
 use Rattle.std.specs.List.{slice_get}

@@ -1,5 +1,5 @@
 -- What is proved of looks, knowledge and exploration, step by step.
-use Rattle.std.specs.Prelude.{◌≡◌, ℕ, Bool, true, false, List, [], Some, None, Option}
+use Rattle.std.specs.Prelude.{◌≡◌, ℕ, Bool, true, List, [], Some, None}
 use Rattle.measure.specs.Measure.{Measure, Lawful}
 use Rattle.guards.specs.Questions.{Rule}
 use Rattle.rules.specs.Book.{Schema}
@@ -9,7 +9,7 @@ use Rattle.rules.specs.Trees.{Tree, tree_answer, Same}
 use Rattle.theory.specs.Runs.{Look, Run, execute, world_of, sheet_run, tree_run, SheetFits}
 use Rattle.theory.specs.Inhabited.{inhabited}
 use Rattle.theory.specs.Knowledge.{Knowledge, learn, Fits, tells, Askable, Good}
-use Rattle.theory.specs.Explore.{same, Verdict, alike, differs, explore, More, Proper}
+use Rattle.theory.specs.Explore.{alike, differs, explore, More, Proper}
 
 -- ── 1. runs ──
 
