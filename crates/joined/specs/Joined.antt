@@ -1,8 +1,8 @@
 -- Two measures as one: sort 2s is sort s of the first, and sort 2s + 1 is sort s of the second.
 use Rattle.std.specs.Prelude.{ℕ, ◌+◌, ◌*◌, ◌/◌, ◌%◌, Bool, cond, ◌&&◌, ℤ, ◌==◌, nat_lt}
 use Rattle.measure.specs.Measure.{Measure}
-use Rattle.joined.specs.declared.Either.{Either}
-use Rattle.joined.specs.declared.Either.TheVariants.{First, Second}
+use Rattle.either.specs.declared.Either.{Either}
+use Rattle.either.specs.declared.Either.TheVariants.{Left, Right}
 
 -- the measure that a sort comes from
 abbrev pub side : Measure → Measure → ℕ → Measure
@@ -20,10 +20,10 @@ joined a b = record {
 module _ {X Y : Type 0} where
   -- the sort of a region, from that of each side's regions
   abbrev pub either_sort : (X → ℕ) → (Y → ℕ) → Either X Y → ℕ
-  either_sort f g (First x) = 2 * f x
-  either_sort f g (Second y) = 2 * g y + 1
+  either_sort f g (Left x) = 2 * f x
+  either_sort f g (Right y) = 2 * g y + 1
 
   -- what a region holds, from what each side's regions hold
   abbrev pub either_holds : (X → ℤ → Bool) → (Y → ℤ → Bool) → Either X Y → ℤ → Bool
-  either_holds f g (First x) n = f x n
-  either_holds f g (Second y) n = g y n
+  either_holds f g (Left x) n = f x n
+  either_holds f g (Right y) n = g y n

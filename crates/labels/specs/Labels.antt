@@ -1,10 +1,11 @@
 -- Labels 0 to m - 1, as sort 0; a test is a set of labels, by the binary digits of a number.
-use Rattle.std.specs.Prelude.{ℕ, ◌/◌, ◌%◌, ◌^◌, Bool, false, ◌&&◌, ℤ, pos, negsuc, ◌==◌, nat_lt}
+use Rattle.std.specs.Prelude.{ℕ, ◌^◌, Bool, false, ◌&&◌, ℤ, pos, negsuc, ◌==◌, nat_lt}
+use Rattle.std.specs.Int.{bit_at}
 use Rattle.measure.specs.Measure.{Measure}
 
 -- whether the binary digit of weight 2 ^ n is 1
 abbrev pub digit : ℕ → ℕ → Bool
-digit n x = x / 2 ^ n % 2 == 1
+digit n x = bit_at x n == 1
 
 -- whether z is one of 0 to m - 1
 abbrev pub under : ℕ → ℤ → Bool

@@ -1,4 +1,3 @@
 -- What the contracts of this crate cite.
 pub mod Labels
 pub mod Masks
-pub mod Digits

@@ -22,102 +22,44 @@ fn one_to_63_labels(rt: HostRuntime) -> Result<(), Fail> {
     assert!(rt;
         Labels::new(0).is_none() && Labels::new(64).is_none() && Labels::new(255).is_none()
     );
-    let Some(most) = Labels::new(63) else {
-        return Err(Fail::new("63 labels"));
-    };
+    let most = Labels::new(63).ok_or("63 labels")?;
     assert!(rt; most.is_atom(0, 62) && !most.is_atom(0, 63) && !most.is_atom(0, -1));
     assert!(rt; most.is_test(0, i64::MAX) && !most.is_test(0, -1));
     assert!(rt; most.passes(0, i64::MAX, 62));
-    let Some(one) = Labels::new(1) else {
-        return Err(Fail::new("one label"));
-    };
+    let one = Labels::new(1).ok_or("one label")?;
     assert!(rt; one.is_test(0, 1) && !one.is_test(0, 2));
     Ok(())
 }
 
 #[test]
 fn three_labels_have_tests_to_7(rt: HostRuntime) -> Result<(), Fail> {
-    let Some(kind) = Labels::new(3) else {
-        return Err(Fail::new("three labels"));
-    };
+    let kind = Labels::new(3).ok_or("three labels")?;
     assert!(rt; kind.is_test(0, 0) && kind.is_test(0, 7) && !kind.is_test(0, 8));
     assert!(rt; kind.passes(0, 5, 0) && !kind.passes(0, 5, 1) && kind.passes(0, 5, 2));
     assert_eq!(rt;
-        solve(
-            &kind,
-            0,
-            &[
-                Ask {
-                    test: 1,
-                    wanted: false,
-                },
-                Ask {
-                    test: 6,
-                    wanted: true,
-                },
-            ],
-        ),
+        solve(&kind, 0, &[Ask::new(1, false), Ask::new(6, true)]),
         Some(1)
     );
-    assert_eq!(rt;
-        solve(
-            &kind,
-            0,
-            &[Ask {
-                test: 7,
-                wanted: false,
-            }],
-        ),
-        None
-    );
+    assert_eq!(rt; solve(&kind, 0, &[Ask::new(7, false)]), None);
     Ok(())
 }
 
 #[test]
 fn joined_sorts_alternate(rt: HostRuntime) -> Result<(), Fail> {
-    let Some(second) = Labels::new(8) else {
-        return Err(Fail::new("eight labels"));
-    };
     let kind = Joined {
         first: Millimetres,
-        second,
+        second: Labels::new(8).ok_or("eight labels")?,
     };
     assert!(rt; kind.serves(0) && kind.serves(1) && !kind.serves(2) && !kind.serves(65_535));
     assert!(rt; kind.is_atom(0, -1_000) && !kind.is_atom(1, -1_000));
     assert!(rt; kind.is_test(1, 255) && !kind.is_test(1, 256));
     assert_eq!(rt; any_atom(&kind, 65_535), None);
     assert_eq!(rt;
-        solve(
-            &kind,
-            0,
-            &[
-                Ask {
-                    test: 950,
-                    wanted: true,
-                },
-                Ask {
-                    test: 900,
-                    wanted: false,
-                },
-            ],
-        ),
+        solve(&kind, 0, &[Ask::new(950, true), Ask::new(900, false)]),
         Some(901)
     );
     assert_eq!(rt;
-        solve(
-            &kind,
-            0,
-            &[
-                Ask {
-                    test: 100,
-                    wanted: true,
-                },
-                Ask {
-                    test: 150,
-                    wanted: false,
-                },
-            ],
-        ),
+        solve(&kind, 0, &[Ask::new(100, true), Ask::new(150, false)]),
         None
     );
     Ok(())

@@ -8,10 +8,10 @@ mod asks;
 
 pub use asks::{Ask, any_atom, solve};
 
-// A kind serves some of the sorts 0 to 65,535. A sort that it serves has atoms, at least one, and tests, each a yes or
-// no for every atom. No call is refused, and none changes what the kind means.
+/// A kind serves some of the sorts 0 to 65,535. A sort that it serves has atoms, at least one, and tests, each a yes or
+/// no for every atom. No call is refused, and none changes what the kind means.
 pub trait Kind: Drop {
-    // A set of atoms of one sort.
+    /// A set of atoms of one sort.
     type Region: Copy;
 
     // Which sorts it serves, and the atoms and tests of each.
@@ -31,21 +31,21 @@ pub trait Kind: Drop {
     fn is_test(&self, sort: u16, test: i64) -> bool
         ensures { result ≡ (meaning self.now).test sort test };
 
-    // A number that is no test is passed by no atom, and one that is no atom passes no test.
+    /// A number that is no test is passed by no atom, and one that is no atom passes no test.
     fn passes(&self, sort: u16, test: i64, atom: i64) -> bool
         ensures { result ≡ (meaning self.now).passes sort test atom };
 
-    // All atoms of a sort.
+    /// All atoms of a sort.
     fn whole(&self, sort: u16) -> Self::Region
         ensures of { sortof self.now result ≡ sort }
         ensures all { (n : ℤ) → holds self.now result n ≡ (meaning self.now).atom sort n };
 
-    // The atoms of the region that give the wanted answer to the test.
-    fn narrow(&self, region: Self::Region, test: i64, wanted: bool) -> Self::Region
+    /// The atoms of the region that give the wanted answer to the test.
+    fn narrow(&self, region: Self::Region, ask: Ask) -> Self::Region
         ensures of { sortof self.now result ≡ sortof self.now region }
-        ensures kept { (n : ℤ) → holds self.now result n ≡ (holds self.now region n && gives wanted ((meaning self.now).passes (sortof self.now region) test n)) };
+        ensures kept { (n : ℤ) → holds self.now result n ≡ (holds self.now region n && gives ask.wanted ((meaning self.now).passes (sortof self.now region) ask.test n)) };
 
-    // An atom of the region, or `None` where it has none. Which of its atoms is free.
+    /// An atom of the region, or `None` where it has none. Which of its atoms is free.
     fn pick(&self, region: &Self::Region) -> Option<i64>
         ensures cases { MatchOption result ((n : ℤ) → holds self.now region.now n ≡ false) (λ n. holds self.now region.now n ≡ true) };
 

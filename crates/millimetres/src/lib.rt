@@ -1,79 +1,47 @@
 // Lengths in whole millimetres, with tests of the form "at most".
 #![tactic(auto)]
 
-ghost use Rattle.std.specs.Prelude.{◌≡◌, not, ◌&&◌, ℤ, pos, negsuc, ◌+ℤ◌, ◌≤ℤ◌};
+ghost use Rattle.std.specs.Prelude.{◌≡◌, ◌≤ℤ◌};
+ghost use Rattle.millimetres.specs.declared.TheConstants.{SHORTEST, LONGEST};
 ghost use Rattle.millimetres.specs.Millimetres.{measurable, limit, interval, millimetres};
 ghost use Rattle.millimetres.specs.Intervals.{millimetres-Lawful};
 ghost use Rattle.std.proofs.Common.{rules};
 
-use measure::Kind;
+use measure::{Ask, Kind};
 
 const SHORTEST: i64 = -1_000;
 
 const LONGEST: i64 = 10_000;
 
-// The lengths from -1,000 to 10,000 mm, as sort 0. Each is a test too, passed by the lengths of at most it.
-#[derive(Clone, Copy)]
+/// The lengths from -1,000 to 10,000 mm, as sort 0. Each is a test too, passed by the lengths of at most it.
+#[derive(Clone, Copy, Debug, Default, PartialEq, Eq)]
 pub struct Millimetres;
 
-// The lengths from `low` to `high` where the sort is 0, else none.
-#[derive(Clone, Copy)]
+/// The lengths from `low` to `high` where the sort is 0, else none.
+#[derive(Clone, Copy, Debug)]
 pub struct Interval {
     sort: u16,
     low: i64,
     high: i64,
-    ghost above: { negsuc 999 ≤ℤ low },
-    ghost below: { high ≤ℤ pos 10000 },
+    ghost above: { SHORTEST ≤ℤ low },
+    ghost below: { high ≤ℤ LONGEST },
 }
 
 fn is_length(sort: u16, n: i64) -> bool
     ensures { result ≡ measurable sort n }
 {
-    sort == 0 && SHORTEST <= n && n <= LONGEST
+    sort == 0 && (SHORTEST..=LONGEST).contains(&n)
 }
 
 // The greatest length that passes the test: below all of them where the number is no test.
 fn greatest(sort: u16, test: i64) -> i64
     ensures value { result ≡ limit sort test }
-    ensures below { result ≤ℤ pos 10000 }
+    ensures below { result ≤ℤ LONGEST }
 {
     if is_length(sort, test) {
         test
     } else {
         SHORTEST - 1
-    }
-}
-
-// The number after it, from which on lengths fail the test.
-fn first_failing(sort: u16, test: i64) -> i64
-    ensures { result ≡ limit sort test +ℤ pos 1 }
-{
-    greatest(sort, test) + 1
-}
-
-impl Interval {
-    // The part that passes the test.
-    fn passing(self, test: i64) -> Interval
-        ensures of { result.sort ≡ self.sort }
-        ensures kept { (n : ℤ) → interval result.sort result.low result.high n ≡ (interval self.sort self.low self.high n && millimetres.passes self.sort test n) }
-    {
-        Interval {
-            sort: self.sort,
-            low: self.low,
-            high: self.high.min(greatest(self.sort, test)),
-        }
-    }
-
-    // The part that does not pass the test.
-    fn failing(self, test: i64) -> Interval
-        ensures of { result.sort ≡ self.sort }
-        ensures kept { (n : ℤ) → interval result.sort result.low result.high n ≡ (interval self.sort self.low self.high n && not (millimetres.passes self.sort test n)) }
-    {
-        Interval {
-            sort: self.sort,
-            low: self.low.max(first_failing(self.sort, test)),
-            high: self.high,
-        }
     }
 }
 
@@ -114,19 +82,24 @@ impl Kind for Millimetres {
         }
     }
 
-    fn narrow(&self, region: Interval, test: i64, wanted: bool) -> Interval {
-        if wanted {
-            region.passing(test)
-        } else {
-            region.failing(test)
+    fn narrow(&self, region: Interval, ask: Ask) -> Interval {
+        let Interval { sort, low, high } = region;
+        let greatest = greatest(sort, ask.test);
+        if ask.wanted {
+            return Interval {
+                sort,
+                low,
+                high: high.min(greatest),
+            };
+        }
+        Interval {
+            sort,
+            low: low.max(greatest + 1),
+            high,
         }
     }
 
     fn pick(&self, region: &Interval) -> Option<i64> {
-        if region.sort == 0 && region.low <= region.high {
-            Some(region.low)
-        } else {
-            None
-        }
+        (region.sort == 0 && region.low <= region.high).then_some(region.low)
     }
 }

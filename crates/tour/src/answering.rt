@@ -11,7 +11,7 @@ fn ask<H: Host>(rt: &HostRuntime, host: &mut H, numbers: &[u16]) -> anyhow::Resu
     };
     let guard = question.guard();
     let places = question.place_count();
-    let answer = if host.ask(&question) { "yes" } else { "no" };
+    let answer = crate::yes_or_no(host.ask(&question));
     println!(rt; "  guard {guard} (places: {places}): {answer}")?;
     Ok(())
 }

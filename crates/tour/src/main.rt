@@ -5,6 +5,10 @@ mod answering;
 mod filing;
 mod measuring;
 
+fn yes_or_no(answer: bool) -> &'static str {
+    if answer { "yes" } else { "no" }
+}
+
 fn run(rt: &HostRuntime) -> anyhow::Result<()> {
     measuring::show(rt)?;
     answering::show(rt)?;
