@@ -1,6 +1,7 @@
 -- One more question to a host, and a run up to the first yes.
-use Rattle.std.proofs.Common.{◌≡◌, ℕ, ◌+◌, ◌<◌, ◌≤◌, Bool, true, false, cond, List, [], ◌∷◌, ◌++◌, map, length, get_or, drop, Some, None, Option, sym, refl, ap, ◌∙◌, subst, arith}
-use Rattle.std.proofs.lemmas.List.{append_assoc, append-nil, drop_all, drop_more, drop-map}
+use Rattle.std.proofs.Common.{◌≡◌, ℕ, ◌+◌, ◌<◌, Bool, true, false, cond, List, [], ◌∷◌, ◌++◌, map, length, get_or, drop, Some, None, Option, sym, refl, ap, ◌∙◌, subst, arith}
+use Rattle.std.proofs.lemmas.Grind.{common_steps}
+use Rattle.std.proofs.lemmas.List.{append_assoc, append-nil, drop_more, drop-map}
 use Rattle.std.specs.Option.{option_map}
 use Rattle.guards.specs.Questions.{Question, Rule}
 use Rattle.guards.specs.Hosts.{Asked, Moves, answered}
@@ -14,13 +15,9 @@ later : (i : ℕ) (o : Option ℕ) → option_map (λ k. k + i) (option_map (λ 
 later i None = refl
 later i (Some k) = ap Some (omega arith)
 
-at_first : (o : Option ℕ) → o ≡ option_map (λ k. k + 0) o
-at_first None = refl
-at_first (Some k) = ap Some (omega arith)
-
 -- what is left of a list of views begins with the next one
-pub next_is : {X : Type 0} (f : X → Question) (xs : List X) (i : ℕ) (d : X) → i < length xs → drop i (map f xs) ≡ f (get_or xs i d) ∷ drop (i + 1) (map f xs)
-next_is f xs i d h = drop-map f i xs ∙ ap (map f) (drop_more xs i d h) ∙ ap (λ (t : List Question). f (get_or xs i d) ∷ t) (sym (drop-map f (i + 1) xs))
+pub next_is : {X : Type 0} (f : X → Question) (xs : List X) (i : ℕ) (x : X) → i < length xs → x ≡ get_or xs i x → drop i (map f xs) ≡ f x ∷ drop (i + 1) (map f xs)
+next_is {X} f xs i x h e = grind (arith, common_steps, drop-map, drop_more)
 
 module _ {S : Type 0} (rule : S → Rule) (moved : S → List Asked → S → Type 0) where
   -- a run over qs from a has put the questions before index i, with no yes, and come to b
@@ -39,9 +36,6 @@ module _ {S : Type 0} (rule : S → Rule) (moved : S → List Asked → S → Ty
       let last : moved b (answered (rule a) (q ∷ [])) c = subst (λ (x : Bool). moved b ((q, x) ∷ []) c) value after in
       subst (λ (l : List Asked). moved a l c) (sym (answered-++ (rule a) ps (q ∷ []))) (laws.further a b c _ _ before last)
 
-  pub run_starts : (a : S) (qs : List Question) → Running rule moved a a qs 0
-  run_starts a qs = record { same = refl; found = at_first (first_yes (rule a) qs); done = []; put = refl; noted = laws.still a }
-
   module _ (a b c : S) (qs : List Question) (i : ℕ) (q : Question) (r : Bool) (cut : drop i qs ≡ q ∷ drop (i + 1) qs) (run : Running rule moved a b qs i) (answer : r ≡ rule b q) (same : rule c ≡ rule b) (after : moved b ((q, r) ∷ []) c) where
     value : (s : Bool) → r ≡ s → rule a q ≡ s
     value s e = sym (answer ∙ ap (λ (f : Rule). f q) run.same) ∙ e
@@ -50,15 +44,10 @@ module _ {S : Type 0} (rule : S → Rule) (moved : S → List Asked → S → Ty
     one = ask_more a b c run.done q r run.noted run.same answer after
 
     on : (s : Bool) → r ≡ s → until_yes (rule a) qs ≡ (run.done ++ q ∷ []) ++ cond s [] (until_yes (rule a) (drop (i + 1) qs))
-    on s e =
-        run.put ∙ ap (λ (t : List Question). run.done ++ until_yes (rule a) t) cut
-        ∙ ap (λ (t : Bool). run.done ++ (q ∷ cond t [] (until_yes (rule a) (drop (i + 1) qs)))) (value s e)
-        ∙ sym (append_assoc run.done (q ∷ []) (cond s [] (until_yes (rule a) (drop (i + 1) qs))))
+    on s e = grind (arith, common_steps, run.put, value s e, cut, append_assoc)
 
     look : (s : Bool) → r ≡ s → first_yes (rule a) qs ≡ option_map (λ k. k + i) (cond s (Some 0) (option_map (λ k. k + 1) (first_yes (rule a) (drop (i + 1) qs))))
-    look s e =
-        run.found ∙ ap (λ (t : List Question). option_map (λ (k : ℕ). k + i) (first_yes (rule a) t)) cut
-        ∙ ap (λ (t : Bool). option_map (λ (k : ℕ). k + i) (cond t (Some 0) (option_map (λ (k : ℕ). k + 1) (first_yes (rule a) (drop (i + 1) qs))))) (value s e)
+    look s e = grind (arith, common_steps, run.found, value s e, cut)
 
     pub run_goes : r ≡ false → Running rule moved a c qs (i + 1)
     run_goes e = record { same = same ∙ run.same; found = look false e ∙ later i _; done = run.done ++ q ∷ []; put = on false e; noted = one }
@@ -69,12 +58,3 @@ module _ {S : Type 0} (rule : S → Rule) (moved : S → List Asked → S → Ty
       same ∙ run.same,
       subst (λ (t : List Question). moved a (answered (rule a) t) c) (sym (on true e ∙ append-nil _)) one,
     )
-
-  pub run_ends : (a b : S) (qs : List Question) (i : ℕ) → length qs ≤ i → Running rule moved a b qs i → (None ≡ first_yes (rule a) qs) × (rule b ≡ rule a) × moved a (answered (rule a) (until_yes (rule a) qs)) b
-  run_ends a b qs i h run =
-      let gone = drop_all i qs h in
-      let all : until_yes (rule a) qs ≡ run.done = run.put ∙ ap (λ (t : List Question). run.done ++ until_yes (rule a) t) gone ∙ append-nil run.done in (
-        sym (run.found ∙ ap (λ (t : List Question). option_map (λ (k : ℕ). k + i) (first_yes (rule a) t)) gone),
-        run.same,
-        subst (λ (t : List Question). moved a (answered (rule a) t) b) (sym all) run.noted,
-      )

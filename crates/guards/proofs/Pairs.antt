@@ -1,22 +1,16 @@
 -- Steps in pairs of numbers.
-use Rattle.std.proofs.Common.{◌≡◌, ℕ, zero, suc, ◌+◌, ◌-◌, ◌*◌, ◌/◌, ◌%◌, ◌<◌, List, [], ◌∷◌, length, get_or, take, Some, refl, ap, ◌∙◌, arith}
+use Rattle.std.proofs.Common.{◌≡◌, ℕ, zero, suc, ◌*◌, ◌/◌, ◌%◌, List, [], ◌∷◌, map, length, get_or, sym, refl, ap, ◌∙◌, arith}
+use Rattle.std.proofs.lemmas.Option.{slice_get-map}
 use Rattle.std.specs.List.{slice_get}
+use Rattle.std.specs.Option.{option_map}
+use Rattle.std.specs.Simd.{first_chunks}
+use Rattle.guards.specs.declared.step.Step.{Step}
 use Rattle.guards.specs.Questions.{Steps, steps_in, written_steps}
 
-pub length-steps_in : (l : List ℕ) → length (steps_in l) ≡ length l / 2
-length-steps_in [] = refl
-length-steps_in (c ∷ []) = refl
-length-steps_in (c ∷ (f ∷ l)) = omega (arith, length-steps_in l)
-
-pub nth_steps_in : (l : List ℕ) (i : ℕ) → i < length l / 2 → Some (record { constructor = get_or l (2 * i) 0; field = get_or l (2 * i + 1) 0 }) ≡ slice_get (steps_in l) i
-nth_steps_in [] i h = absurd (omega arith)
-nth_steps_in (c ∷ []) i h = absurd (omega arith)
-nth_steps_in (c ∷ (f ∷ l)) zero h = refl
-nth_steps_in (c ∷ (f ∷ l)) (suc i) h =
-    let a : 2 * suc i ≡ suc (suc (2 * i)) = omega arith in
-    let b : 2 * suc i + 1 ≡ suc (suc (2 * i + 1)) = omega arith in
-    ap (λ (n : ℕ). Some (record { constructor = get_or (c ∷ (f ∷ l)) n 0; field = get_or (c ∷ (f ∷ l)) (2 * suc i + 1) 0 })) a
-    ∙ ap (λ (n : ℕ). Some (record { constructor = get_or l (2 * i) 0; field = get_or (c ∷ (f ∷ l)) n 0 })) b ∙ nth_steps_in l i (omega arith)
+pub steps_in_length : (l : List ℕ) → length (steps_in l) ≡ length l / 2
+steps_in_length [] = refl
+steps_in_length (c ∷ []) = refl
+steps_in_length (c ∷ (f ∷ l)) = omega (arith, steps_in_length l)
 
 -- an even list of numbers is what is written of its steps
 pub written_steps_in : (l : List ℕ) → length l % 2 ≡ 0 → written_steps (steps_in l) ≡ l
@@ -32,11 +26,19 @@ pub length_written : (p : Steps) → length (written_steps p) ≡ 2 * length p
 length_written [] = refl
 length_written (s ∷ p) = omega (arith, length_written p)
 
--- the front of numbers that are steps, and what is left over
-pub front_steps_in : (l : List ℕ) (n : ℕ) → n ≡ length l - length l % 2 → take n l ≡ written_steps (steps_in l)
-front_steps_in [] n h = ap (λ (k : ℕ). take k []) h
-front_steps_in (c ∷ []) n h = ap (λ (k : ℕ). take k (c ∷ [])) h
-front_steps_in (c ∷ (f ∷ l)) n h =
-    let m = length l - length l % 2 in
-    let e : n ≡ suc (suc m) = omega arith in
-    ap (λ (k : ℕ). take k (c ∷ (f ∷ l))) e ∙ ap (λ (t : List ℕ). c ∷ (f ∷ t)) (front_steps_in l m refl)
+-- the step that two numbers say
+abbrev pub pair_step : List ℕ → Step
+pair_step l = record { constructor = get_or l 0 0; field = get_or l 1 0 }
+
+-- the pieces of two numbers say the steps, one after another
+pairs_say : (n : ℕ) (l : List ℕ) → n ≡ length l / 2 → map pair_step (first_chunks 2 n l) ≡ steps_in l
+pairs_say zero [] h = refl
+pairs_say zero (c ∷ []) h = refl
+pairs_say zero (c ∷ (f ∷ l)) h = absurd (omega arith)
+pairs_say (suc n) [] h = absurd (omega arith)
+pairs_say (suc n) (c ∷ []) h = absurd (omega arith)
+pairs_say (suc n) (c ∷ (f ∷ l)) h = ap (λ (t : Steps). record { constructor = c; field = f } ∷ t) (pairs_say n l (omega arith))
+
+pub nth_pair : (l : List ℕ) (pairs : List (List ℕ)) (i : ℕ) → pairs ≡ first_chunks 2 (length l / 2) l → option_map pair_step (slice_get pairs i) ≡ slice_get (steps_in l) i
+nth_pair l pairs i e =
+    sym (slice_get-map pair_step pairs i) ∙ ap (λ (t : List (List ℕ)). slice_get (map pair_step t) i) e ∙ ap (λ (t : Steps). slice_get t i) (pairs_say (length l / 2) l refl)

@@ -1,5 +1,6 @@
 -- Answers that are listed in numbers.
 use Rattle.std.specs.Prelude.{ℕ, zero, suc, ◌-◌, Bool, true, false, cond, List, [], ◌∷◌, ◌++◌, length, Some, None, Option, ◌==◌, nat_le}
+use Rattle.std.specs.Option.{option_map_or}
 use Rattle.guards.specs.Questions.{Question, Rule, written, same_question, and_then, read_question}
 use Rattle.guards.specs.Hosts.{Asked}
 
@@ -12,16 +13,11 @@ read_answer q (n ∷ l) = cond (nat_le n 1) (Some ((q, (n == 1)), l)) None
 abbrev pub read_entry : List ℕ → Option (Asked × List ℕ)
 read_entry l = and_then (read_question 16 l) (λ r. read_answer r.0 r.1)
 
--- what is listed, if an entry was read
-abbrev pub listing : Option (Asked × List ℕ) → (Asked × List ℕ → List Asked) → List Asked
-listing None f = []
-listing (Some e) f = f e
-
 -- the answers listed once so many numbers are passed over: each entry's own numbers are, to the next
 abbrev pub answers_after : ℕ → List ℕ → List Asked
 answers_after n [] = []
 answers_after (suc n) (x ∷ l) = answers_after n l
-answers_after zero (x ∷ l) = listing (read_entry (x ∷ l)) (λ e. e.0 ∷ answers_after (length l - length e.1) l)
+answers_after zero (x ∷ l) = option_map_or (λ e. e.0 ∷ answers_after (length l - length e.1) l) (read_entry (x ∷ l)) []
 
 -- the answers that numbers list, up to where no entry can be read
 abbrev pub answers_in : List ℕ → List Asked

@@ -1,6 +1,6 @@
 -- Questions about places, their written form in numbers, and reading it back.
 use Rattle.std.specs.Prelude.{ℕ, zero, suc, ◌*◌, ◌≤◌, Bool, cond, List, [], ◌∷◌, ◌++◌, length, take, drop, Some, None, Option, nat_le}
-use Rattle.std.specs.Option.{option_map, unwrap_or}
+use Rattle.std.specs.Option.{option_map, option_and_then, unwrap_or}
 use Rattle.std.specs.List.{AllByRecursion}
 use Rattle.std.specs.Str.{bytes_eq}
 use Rattle.guards.specs.declared.step.Step.{Step}
@@ -48,8 +48,7 @@ steps_in (c ∷ (f ∷ l)) = record { constructor = c; field = f } ∷ steps_in 
 
 -- what is read next from what was read and what is left, if anything was
 abbrev pub and_then : {X Y : Type 0} → Option X → (X → Option Y) → Option Y
-and_then None f = None
-and_then (Some x) f = f x
+and_then o f = option_and_then f o
 
 -- the place at the front, of at most so many steps, and the numbers after it
 abbrev pub read_place : ℕ → List ℕ → Option (Steps × List ℕ)

@@ -9,8 +9,8 @@ ghost use Rattle.guards.specs.Views.{question_of};
 pub mod counting;
 pub mod listed;
 pub mod runs;
-mod split;
 pub mod step;
+mod unread;
 pub mod writing;
 pub mod written;
 

@@ -1,12 +1,13 @@
 // Answers that are listed: questions, each followed by 1 for yes or 0 for no.
 ghost use Rattle.std.specs.Prelude.{◌≡◌};
-ghost use Rattle.std.specs.Option.{option_map};
+ghost use Rattle.std.specs.Iterator.{YieldsFirstBy, item_count};
 ghost use Rattle.guards.specs.Hosts.{unmoved};
-ghost use Rattle.guards.specs.Listed.{read_entry, listed_rule};
-ghost use Rattle.guards.specs.Views.{question_of, entry_of};
+ghost use Rattle.guards.specs.Listed.{answers_in, listed_rule};
+ghost use Rattle.guards.specs.Views.{question_of};
 
 use crate::Host;
-use crate::written::{WrittenQuestion, split_question};
+use crate::unread::Unread;
+use crate::written::{MOST_LISTED_STEPS, WrittenQuestion};
 
 /// A host that answers by a list: the first equal question decides, and one that is not listed gets no.
 /// What is no entry ends the list: a question cut short, of over four places or of over 16 steps in one,
@@ -16,42 +17,32 @@ pub struct ListedAnswers<'a> {
     pub numbers: &'a [u16],
 }
 
-// A listed question with its answer, and what is left after them.
-#[derive(Clone, Copy)]
-pub(crate) struct Entry<'a> {
-    question: WrittenQuestion<'a>,
-    answer: bool,
-    rest: &'a [u16],
+// The entries of a list, each a question with its answer, up to where none can be read.
+#[derive(Drop)]
+struct Entries<'a> {
+    numbers: &'a [u16],
 }
 
-// The entry at the front.
-fn split_entry(list: &[u16]) -> Option<Entry<'_>>
-    ensures { option_map entry_of result ≡ read_entry list.now }
-{
-    let (question, rest) = split_question(list, 16)?;
-    let (answer, rest) = rest.split_first()?;
-    if *answer > 1 {
-        return None;
-    }
-    Some(Entry {
-        question,
-        answer: *answer == 1,
-        rest,
-    })
-}
+impl<'a> Iterator for Entries<'a> {
+    type Item = (WrittenQuestion<'a>, bool);
 
-// The answer of the first entry with an equal question, or no.
-fn listed_answer(list: &[u16], question: &WrittenQuestion<'_>) -> bool
-    ensures { result ≡ listed_rule list.now (question_of question.now) }
-{
-    let mut rest = list;
-    while let Some(entry) = split_entry(rest) {
-        if entry.question.same_as(question) {
-            return entry.answer;
+    ghost next_gives = { YieldsFirstBy (λ e. (question_of e.0, e.1)) (λ s. answers_in s.numbers.now) };
+
+    ghost remaining = { item_count (λ s. answers_in s.numbers.now) };
+
+    fn next(&mut self) -> Option<(WrittenQuestion<'a>, bool)> {
+        let unread = Unread {
+            numbers: self.numbers,
+            most_steps: MOST_LISTED_STEPS,
+        };
+        let (question, rest) = unread.question()?;
+        let (answer, rest) = rest.split_first()?;
+        if *answer > 1 {
+            return None;
         }
-        rest = entry.rest;
+        self.numbers = rest;
+        Some((question, *answer == 1))
     }
-    false
 }
 
 impl<'a> Host for ListedAnswers<'a> {
@@ -62,6 +53,10 @@ impl<'a> Host for ListedAnswers<'a> {
     ghost laws = { unmoved };
 
     fn ask(&mut self, question: &WrittenQuestion<'_>) -> bool {
-        listed_answer(self.numbers, question)
+        Entries {
+            numbers: self.numbers,
+        }
+        .find(|(listed, _)| *listed == *question)
+        .is_some_and(|(_, answer)| answer)
     }
 }

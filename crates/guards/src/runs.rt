@@ -12,13 +12,14 @@ use crate::listed::ListedAnswers;
 use crate::written::WrittenQuestion;
 
 /// The index of the first question that gets a yes; no question after it is asked.
+#[tactic(auto, using(crate::proofs::Asking::next_is, crate::proofs::Asking::run_goes, crate::proofs::Asking::run_found))]
 pub fn first_yes<H: Host>(host: &mut H, questions: &[WrittenQuestion<'_>]) -> Option<usize>
     ensures answer { result ≡ first_yes (H.rule host.old) (map question_of questions.now) }
     ensures same { H.rule host.new ≡ H.rule host.old }
     ensures noted { H.moved host.old (answered (H.rule host.old) (until_yes (H.rule host.old) (map question_of questions.now))) host.new }
 {
-    for i in 0..questions.len() {
-        if host.ask(&questions[i]) {
+    for (i, question) in questions.iter().enumerate() {
+        if host.ask(question) {
             return Some(i);
         }
     }

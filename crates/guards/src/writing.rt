@@ -8,24 +8,25 @@ use crate::step::Step;
 use crate::written::WrittenQuestion;
 
 /// Writes a place to the front, and says how many numbers it takes: nothing, if there is no room or it has over 65,535 steps.
+#[tactic(auto, using(crate::proofs::Putting::head_set, crate::proofs::Putting::place_done, crate::proofs::Putting::place_full))]
 pub fn write_place(out: &mut [u16], steps: &[Step]) -> Option<usize>
     ensures { (result, out.new) ≡ put_place steps.now out.old }
 {
-    if steps.len() > 65535 {
+    let count = u16::try_from(steps.len()).ok()?;
+    let end = 1 + 2 * steps.len();
+    if out.len() < end {
         return None;
     }
-    if out.len() < 1 + 2 * steps.len() {
-        return None;
+    out[0] = count;
+    for (i, step) in steps.iter().enumerate() {
+        out[2 * i + 1] = step.constructor;
+        out[2 * i + 2] = step.field;
     }
-    out[0] = steps.len() as u16;
-    for i in 0..steps.len() {
-        out[2 * i + 1] = steps[i].constructor;
-        out[2 * i + 2] = steps[i].field;
-    }
-    Some(1 + 2 * steps.len())
+    Some(end)
 }
 
 /// Writes a question with its answer to the front, as listed answers have it, and says how many numbers that takes: nothing, if there is no room.
+#[tactic(auto, using(crate::proofs::Putting::answer_put, crate::proofs::Listing::listed_form))]
 pub fn write_answer(out: &mut [u16], question: &WrittenQuestion<'_>, answer: bool) -> Option<usize>
     ensures written { (result, out.new) ≡ put_answer (question_of question.now, answer) out.old }
     ensures law { ListedForm }
@@ -35,7 +36,7 @@ pub fn write_answer(out: &mut [u16], question: &WrittenQuestion<'_>, answer: boo
     if out.len() <= end {
         return None;
     }
-    out[0..end].copy_from_slice(numbers);
+    out[..end].copy_from_slice(numbers);
     out[end] = u16::from(answer);
     Some(end + 1)
 }

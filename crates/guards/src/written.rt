@@ -1,67 +1,88 @@
 // Questions and places in their written form: views of lent numbers, nothing copied.
-ghost use Rattle.std.specs.Prelude.{◌≡◌, ◌≤◌, true, length, is_some, Decides};
-ghost use Rattle.std.specs.Option.{option_map};
-ghost use Rattle.std.specs.List.{slice_get};
+ghost use Rattle.std.specs.Prelude.{◌≡◌, ◌%◌, true, length, is_some};
 ghost use Rattle.guards.specs.Laws.{WrittenForm};
-ghost use Rattle.guards.specs.Questions.{Within, question_in, read_question, reading, written, written_steps};
-ghost use Rattle.guards.specs.Views.{question_of, place_of, question_and_rest};
+ghost use Rattle.guards.specs.Questions.{reading};
 
-use crate::split::{after_question, count_steps, nth_place, nth_step, step_numbers};
 use crate::step::Step;
+use crate::unread::Unread;
+
+/// The most places that a question asks about.
+pub(crate) const MOST_PLACES: u16 = 4;
+
+/// The most steps of a place in a question that is listed with its answer.
+pub(crate) const MOST_LISTED_STEPS: u16 = 16;
 
 /// A place: two numbers for each step.
 #[derive(Clone, Copy)]
 pub struct WrittenPlace<'a> {
-    numbers: &'a [u16],
+    pub(crate) numbers: &'a [u16],
+    ghost whole: { length numbers.now % 2 ≡ 0 },
 }
 
 impl<'a> WrittenPlace<'a> {
+    ghost use Rattle.std.specs.List.{slice_get};
+    ghost use Rattle.guards.specs.Questions.{written_steps};
+    ghost use Rattle.guards.specs.Views.{place_of};
+
     /// The numbers of the steps: each one's constructor and field.
+    #[tactic(auto, using(crate::proofs::Pairs::written_steps_in))]
     pub fn numbers(&self) -> &'a [u16]
         ensures { result.now ≡ written_steps (place_of self.now) }
     {
-        step_numbers(self.numbers)
+        self.numbers
     }
 
     /// The number of steps.
+    #[tactic(auto, using(crate::proofs::Pairs::steps_in_length))]
     pub fn step_count(&self) -> usize
         ensures { result ≡ length (place_of self.now) }
     {
-        count_steps(self.numbers)
+        self.numbers.len() / 2
     }
 
     /// One step, counted from the root.
     pub fn step(&self, i: usize) -> Option<Step>
         ensures { result ≡ slice_get (place_of self.now) i }
     {
-        nth_step(self.numbers, i)
+        let (steps, _) = self.numbers.as_chunks::<2>();
+        let [constructor, field] = *steps.get(i)?;
+        Some(Step { constructor, field })
     }
 }
 
-/// A question. Only reading makes one; numbers that say none would mean guard 0 and no place.
+/// A question. Only reading makes one, so its numbers say one whole question.
 #[derive(Clone, Copy)]
 pub struct WrittenQuestion<'a> {
-    numbers: &'a [u16],
+    pub(crate) numbers: &'a [u16],
+    ghost whole: { is_some (reading numbers.now) ≡ true },
 }
 
 impl<'a> WrittenQuestion<'a> {
+    ghost use Rattle.std.specs.Prelude.{◌≤◌, Decides};
+    ghost use Rattle.std.specs.Option.{option_map};
+    ghost use Rattle.std.specs.List.{slice_get};
+    ghost use Rattle.guards.specs.Questions.{Within, written};
+    ghost use Rattle.guards.specs.Views.{place_of, question_of};
+
     /// The question that the numbers say, if they are one whole question of at most four places.
     pub fn read(numbers: &'a [u16]) -> Option<WrittenQuestion<'a>>
         ensures { option_map question_of result ≡ reading numbers.now }
     {
-        if is_question(numbers) {
-            Some(WrittenQuestion { numbers })
-        } else {
-            None
-        }
+        let unread = Unread {
+            numbers,
+            most_steps: u16::MAX,
+        };
+        let (question, rest) = unread.question()?;
+        rest.is_empty().then_some(question)
     }
 
     /// The numbers in which the question is written.
+    #[tactic(auto, using(crate::proofs::Reading::whole_written, crate::proofs::Reading::in_within))]
     pub fn numbers(&self) -> &'a [u16]
         ensures value { result.now ≡ written (question_of self.now) }
         ensures within { Within 65535 (question_of self.now) }
     {
-        question_or_empty(self.numbers)
+        self.numbers
     }
 
     /// The guard that asks.
@@ -76,77 +97,71 @@ impl<'a> WrittenQuestion<'a> {
         ensures value { result ≡ length (question_of self.now).places }
         ensures bound { result ≤ 4 }
     {
-        self.numbers()[1] as usize
+        usize::from(self.numbers()[1])
     }
 
     /// One of the places, counted from 0.
     pub fn place(&self, i: usize) -> Option<WrittenPlace<'a>>
         ensures { option_map place_of result ≡ slice_get (question_of self.now).places i }
     {
-        let numbers = nth_place(&self.numbers()[2..], i)?;
-        Some(WrittenPlace { numbers })
+        let places = Unread {
+            numbers: &self.numbers[2..],
+            most_steps: u16::MAX,
+        };
+        let (place, _) = places.after_places(i)?.place()?;
+        Some(place)
     }
 
     /// Whether the question can be listed with its answer: whether no place has over 16 steps.
     pub fn is_listable(&self) -> bool
         ensures { Decides result (Within 16 (question_of self.now)) }
     {
-        self.has_steps_up_to(16)
-    }
-
-    // Whether no place has more steps.
-    fn has_steps_up_to(&self, most: u16) -> bool
-        ensures { Decides result (Within most (question_of self.now)) }
-    {
-        after_question(self.numbers(), most).is_some()
-    }
-
-    /// Whether both are the same question.
-    pub fn same_as(&self, other: &WrittenQuestion<'_>) -> bool
-        ensures { Decides result (question_of self.now ≡ question_of other.now) }
-    {
-        self.numbers() == other.numbers()
+        let unread = Unread {
+            numbers: self.numbers,
+            most_steps: MOST_LISTED_STEPS,
+        };
+        unread.question().is_some()
     }
 }
 
+// Equal questions are those with equal numbers.
+impl PartialEq for WrittenQuestion<'_> {
+    ghost use Rattle.std.specs.Prelude.{Decides};
+    ghost use Rattle.std.specs.Cmp.{on_per, partial_equiv_from_equiv};
+    ghost use Rattle.std.proofs.lemmas.Cmp.{nat_list_eq_equiv};
+    ghost use Rattle.guards.specs.Questions.{written, same_question};
+    ghost use Rattle.guards.specs.Views.{question_of};
+
+    ghost eq = { λ a b. same_question (question_of a) (question_of b) };
+
+    ghost laws = { on_per (λ w. written (question_of w)) (partial_equiv_from_equiv nat_list_eq_equiv) };
+
+    #[tactic(auto, using(crate::proofs::Reading::whole_written, crate::proofs::Listing::same_decides))]
+    fn eq(&self, other: &Self) -> bool
+        ensures test { result ≡ same_question (question_of self.now) (question_of other.now) }
+        ensures same { Decides result (question_of self.now ≡ question_of other.now) }
+    {
+        self.numbers == other.numbers
+    }
+}
+
+impl Eq for WrittenQuestion<'_> {
+    ghost use Rattle.std.specs.Cmp.{on_equiv};
+    ghost use Rattle.std.proofs.lemmas.Cmp.{nat_list_eq_equiv};
+    ghost use Rattle.guards.specs.Questions.{written};
+    ghost use Rattle.guards.specs.Views.{question_of};
+
+    ghost laws = { on_equiv (λ w. written (question_of w)) nat_list_eq_equiv };
+}
+
 /// Whether a question that is written and read again is that question: always.
+#[tactic(auto, using(crate::proofs::Listing::reads_same, crate::proofs::Listing::written_form))]
 pub fn reads_back(question: &WrittenQuestion<'_>) -> bool
     ensures always { result ≡ true }
     ensures law { WrittenForm }
 {
     match WrittenQuestion::read(question.numbers()) {
-        Some(back) => back.same_as(question),
-        None => false,
-    }
-}
-
-// The question at the front, of places of at most so many steps, and what is left.
-pub(crate) fn split_question(numbers: &[u16], most: u16) -> Option<(WrittenQuestion<'_>, &[u16])>
-    ensures { question_and_rest result ≡ read_question most numbers.now }
-{
-    let rest = after_question(numbers, most)?;
-    let question = &numbers[0..numbers.len() - rest.len()];
-    Some((WrittenQuestion { numbers: question }, rest))
-}
-
-// The numbers, if they are one whole question; else those of guard 0 and no place.
-fn question_or_empty(numbers: &[u16]) -> &[u16]
-    ensures value { result.now ≡ written (question_in numbers.now) }
-    ensures within { Within 65535 (question_in numbers.now) }
-{
-    if is_question(numbers) {
-        numbers
-    } else {
-        &[0, 0]
-    }
-}
-
-// Whether the numbers are one whole question of at most four places.
-fn is_question(numbers: &[u16]) -> bool
-    ensures { result ≡ is_some (reading numbers.now) }
-{
-    match after_question(numbers, u16::MAX) {
-        Some(rest) => rest.is_empty(),
+        Some(back) => back == *question,
         None => false,
     }
 }

@@ -24,9 +24,9 @@ fn the_first_equal_question_decides(rt: HostRuntime) -> Result<(), Fail> {
 
 #[test]
 fn answers_cut_at_every_length(rt: HostRuntime) -> Result<(), Fail> {
-    for end in 0..LISTED.len() + 1 {
-        assert!(rt; !says(&LISTED[0..end], &LEFT)?);
-        assert_eq!(rt; says(&LISTED[0..end], &RIGHT)?, end == 12);
+    for end in 0..=LISTED.len() {
+        assert!(rt; !says(&LISTED[..end], &LEFT)?);
+        assert_eq!(rt; says(&LISTED[..end], &RIGHT)?, end == 12);
     }
     Ok(())
 }
@@ -59,5 +59,14 @@ fn questions_are_read_whole(rt: HostRuntime) -> Result<(), Fail> {
             && place.step(1).is_none()
             && question.place(1).is_none()
     );
+    Ok(())
+}
+
+#[test]
+fn questions_are_equal_by_their_numbers(rt: HostRuntime) -> Result<(), Fail> {
+    let left = WrittenQuestion::read(&LEFT).ok_or("no question")?;
+    let right = WrittenQuestion::read(&RIGHT).ok_or("no question")?;
+    let listed = WrittenQuestion::read(&LISTED[..5]).ok_or("no question")?;
+    assert!(rt; left == listed && left != right && right != listed);
     Ok(())
 }
