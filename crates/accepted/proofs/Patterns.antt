@@ -1,7 +1,6 @@
 -- Every pattern that calls accept fits a type that the workbook knows, and so it does where there are more types and constructors.
 use Rattle.std.proofs.Common.{◌≡◌, ℕ, ◌≤◌, false, not, ◌&&◌, eqb, List, [], ◌∷◌, length, ℤ, pos, negsuc, is_some, Some, None, Option, sym, refl, ap, ◌∙◌, subst, arith}
 use Rattle.std.specs.List.{AllByRecursion, slice_get}
-use Rattle.std.proofs.ByRecursion.{All-get_or}
 use Rattle.std.proofs.lemmas.Bool.{true≢false, ltb-false, eqb-true, not-false, or_parts}
 use Rattle.measure.specs.Measure.{Measure}
 use Rattle.guards.specs.Questions.{and_then}
@@ -9,19 +8,20 @@ use Rattle.pattern_file.specs.declared.names.CallName.TheVariants as call
 use Rattle.rules.specs.declared.rows.TypeRow.{TypeRow}
 use Rattle.rules.specs.declared.rows.TypeRow.TheVariants.{Choice, Measured}
 use Rattle.rules.specs.declared.rows.ConstructorRow.{ConstructorRow}
-use Rattle.rules.specs.Tables.{natural, naturals, named, numbers_of, up_to_four}
+use Rattle.rules.specs.Tables.{natural, naturals, named}
 use Rattle.rules.specs.Book.{Book, Schema, schema_of, fields_in, fields_of, owner_in, owner_of, is_choice}
 use Rattle.rules.specs.Sheets.{Pattern, Patterns, any, bind, build, either, gauge, no_patterns, with_pattern, patterns_at, pattern_from, patterns_of, levels, pattern_type}
 use Rattle.rules.specs.Rows.{part, any_row, bind_row, build_row, either_row, gauge_row}
 use Rattle.rules.specs.Grounds.{unknown, any_unknown, row_of, type_of_pattern, parts_differ, differ, pattern_at, new_pattern, building_grounds}
-use Rattle.rules.proofs.Lists.{none≢some, All-nth, Clear, Begins, nth_Begins, known, length-naturals, numbers_of_four}
+use Rattle.rules.proofs.Lists.{All-slice_get, Clear, Begins, slice_get-Begins, known, length-unfolded, All-get_or}
 use Rattle.theory.specs.Runs.{PatternFits, PatternsFit}
-use Rattle.accepted.proofs.Known.{known_under, named_meaning, length-unfolded, not_different}
+use Rattle.accepted.proofs.Known.{known_under, named_meaning, not_different}
+use Rattle.std.proofs.lemmas.Option.{none-some}
 
 -- a constructor of a choice, with at most four fields
 pub record ConstructorFits (ts : List TypeRow) (r : ConstructorRow) : Type 0 where
   pub choice : slice_get ts r.owner ≡ Some Choice
-  pub few : length (numbers_of r.fields) ≤ 4
+  pub few : length r.fields ≤ 4
 
 -- a pattern that fits its type, a known one, of at most 16 levels
 pub record Fitted (d : Schema) (p : Pattern) : Type 0 where
@@ -32,9 +32,9 @@ pub record Fitted (d : Schema) (p : Pattern) : Type 0 where
   pub fits : PatternFits d type p
   pub flat : levels p ≤ 16
 
-pub nth_natural : {A : Type 0} (xs : List A) (z : ℤ) (x : A) → named xs z ≡ Some x → slice_get xs (natural z) ≡ Some x
-nth_natural xs (pos n) x h = h
-nth_natural xs (negsuc n) x h = absurd (none≢some x h)
+pub slice_get-natural : {A : Type 0} (xs : List A) (z : ℤ) (x : A) → named xs z ≡ Some x → slice_get xs (natural z) ≡ Some x
+slice_get-natural xs (pos n) x h = h
+slice_get-natural xs (negsuc n) x h = absurd (none-some x h)
 
 pub measured_row : (row : TypeRow) → is_choice (Some row) ≡ false → (s : ℕ) × (row ≡ Measured s)
 measured_row Choice h = absurd (true≢false h)
@@ -56,7 +56,7 @@ module _ (m : Measure) (b : Book) (fitting : AllByRecursion (Fitted (schema_of b
   pub any_fits : (put : List ℤ) (own : ℤ) → Clear (building_grounds m b call.Any put own) → Fitted (schema_of b) (new_pattern b (any_row own))
   any_fits put own c =
       let k = known b.types own c.1.0 in
-      record { type = natural own; row = k.0; typed = refl; known_type = nth_natural b.types own k.0 k.1; fits = tt; flat = omega arith }
+      record { type = natural own; row = k.0; typed = refl; known_type = slice_get-natural b.types own k.0 k.1; fits = tt; flat = omega arith }
 
   pub bind_fits : (put : List ℤ) (own : ℤ) → Clear (building_grounds m b call.Bind put own) → Fitted (schema_of b) (new_pattern b (bind_row put own))
   bind_fits put own c =
@@ -112,16 +112,13 @@ module _ (m : Measure) (b : Book) (fitting : AllByRecursion (Fitted (schema_of b
   build_fits constructors put own c =
       let k = or_parts (unknown b.constructors own) (any_unknown b.patterns put) c.1.0 in
       let r = known b.constructors own k.0 in
-      let at = nth_natural b.constructors own r.0 r.1 in
-      let f = All-nth (ConstructorFits b.types) b.constructors (natural own) r.0 constructors at in
-      let few = f.few in
-      let wrong : (not (eqb (length put) (length (numbers_of r.0.fields)))) ≡ false
+      let at = slice_get-natural b.constructors own r.0 r.1 in
+      let f = All-slice_get (ConstructorFits b.types) b.constructors (natural own) r.0 constructors at in
+      let wrong : (not (eqb (length put) (length r.0.fields))) ≡ false
       = sym (ap (λ (o : Option ConstructorRow). is_some o && not (eqb (length put) (length (fields_in o)))) r.1) ∙ c.0 in
-      let long = eqb-true (length put) (length (numbers_of r.0.fields)) (not-false (eqb (length put) (length (numbers_of r.0.fields))) wrong) in
-      let differs : parts_differ b put (numbers_of r.0.fields) ≡ false = sym (ap (λ (o : Option ConstructorRow). parts_differ b put (fields_in o)) r.1) ∙ c.1.1.0 in
-      let n = length-naturals put in
-      let numbers = numbers_of_four (naturals put) (omega arith) in
-      let parts = parts_fit put (numbers_of r.0.fields) long k.1 differs in
+      let long = eqb-true (length put) (length r.0.fields) (not-false (eqb (length put) (length r.0.fields)) wrong) in
+      let differs : parts_differ b put r.0.fields ≡ false = sym (ap (λ (o : Option ConstructorRow). parts_differ b put (fields_in o)) r.1) ∙ c.1.1.0 in
+      let parts = parts_fit put r.0.fields long k.1 differs in
       let owner : owner_of (schema_of b) (natural own) ≡ Some r.0.owner = ap owner_in at in
       let flat = ltb-false 16 (levels (new_pattern b (build_row put own))) c.1.1.1.1.0 in
       record {
@@ -132,8 +129,7 @@ module _ (m : Measure) (b : Book) (fitting : AllByRecursion (Fitted (schema_of b
         fits = (
           f.choice,
           owner,
-          subst (λ ts. PatternsFit (schema_of b) ts (patterns_at (patterns_of b.patterns) (numbers_of (up_to_four (naturals put))))) (sym (ap fields_in at))
-              (subst (λ ns. PatternsFit (schema_of b) (numbers_of r.0.fields) (patterns_at (patterns_of b.patterns) ns)) (sym numbers) parts),
+          subst (λ ts. PatternsFit (schema_of b) ts (patterns_at (patterns_of b.patterns) (naturals put))) (sym (ap fields_in at)) parts,
         );
         flat = omega arith;
       }
@@ -144,12 +140,12 @@ abbrev pub schema : List TypeRow → List ConstructorRow → Schema
 schema ts cs = record { types = ts; constructors = cs }
 
 some_owner : (o : Option ConstructorRow) (t : ℕ) → owner_in o ≡ Some t → (r : ConstructorRow) × (o ≡ Some r)
-some_owner None t h = absurd (none≢some t h)
+some_owner None t h = absurd (none-some t h)
 some_owner (Some r) t h = (r, refl)
 
 module _ (ts us : List TypeRow) (cs ds : List ConstructorRow) (types : Begins ts us) (constructors : Begins cs ds) where
   same_constructor : (c t : ℕ) → owner_of (schema ts cs) c ≡ Some t → slice_get ds c ≡ slice_get cs c
-  same_constructor c t h = let r = some_owner (slice_get cs c) t h in nth_Begins cs ds c r.0 constructors r.1 ∙ sym r.1
+  same_constructor c t h = let r = some_owner (slice_get cs c) t h in slice_get-Begins cs ds c r.0 constructors r.1 ∙ sym r.1
 
   pub owner_wider : (c t : ℕ) → owner_of (schema ts cs) c ≡ Some t → owner_of (schema us ds) c ≡ Some t
   owner_wider c t h = ap owner_in (same_constructor c t h) ∙ h
@@ -166,12 +162,12 @@ module _ (ts us : List TypeRow) (cs ds : List ConstructorRow) (types : Begins ts
     fits_wider (any u) t f = tt
     fits_wider (bind x q) t f = fits_wider q t f
     fits_wider (build c qs) t f = (
-      nth_Begins ts us t Choice types f.0,
+      slice_get-Begins ts us t Choice types f.0,
       owner_wider c t f.1,
       subst (λ l. PatternsFit (schema us ds) l qs) (sym (ap fields_in (same_constructor c t f.1))) (all_wider qs (fields_of (schema ts cs) c) f.2),
     )
     fits_wider (either l r) t f = (fits_wider l t f.0, fits_wider r t f.1)
-    fits_wider (gauge k w q) t f = ((f.0.0, nth_Begins ts us t (Measured f.0.0) types f.0.1), fits_wider q t f.1)
+    fits_wider (gauge k w q) t f = ((f.0.0, slice_get-Begins ts us t (Measured f.0.0) types f.0.1), fits_wider q t f.1)
 
     all_wider : (qs : Patterns) (l : List ℕ) → PatternsFit (schema ts cs) l qs → PatternsFit (schema us ds) l qs
     all_wider no_patterns [] f = tt
@@ -184,7 +180,7 @@ module _ (ts us : List TypeRow) (cs ds : List ConstructorRow) (types : Begins ts
     type = f.type;
     row = f.row;
     typed = type_wider p f.type f.typed;
-    known_type = nth_Begins ts us f.type f.row types f.known_type;
+    known_type = slice_get-Begins ts us f.type f.row types f.known_type;
     fits = fits_wider p f.type f.fits;
     flat = f.flat;
   }

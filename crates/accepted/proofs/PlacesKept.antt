@@ -2,7 +2,6 @@
 use Rattle.std.proofs.Common.{◌≡◌, ℕ, zero, suc, ◌<◌, ◌≤◌, true, false, ◌||◌, ◌⊎◌, List, [], ◌∷◌, ◌++◌, map, length, get_or, drop, pos, is_some, Some, None, sym, refl, ap, ◌∙◌, subst, inl, inr, ⊎_elim, arith}
 use Rattle.std.specs.List.{AllByRecursion, slice_get}
 use Rattle.std.proofs.lemmas.List.{length_push, drop-append-le, get_or_past}
-use Rattle.std.proofs.ByRecursion.{All-push, All-get_or}
 use Rattle.std.proofs.lemmas.Bool.{false≢true, cases_lt, leb-false, or_parts, or_cases, or_left, or_right, and_parts, and_from}
 use Rattle.measure.specs.Measure.{Measure}
 use Rattle.guards.specs.Questions.{and_then}
@@ -19,15 +18,16 @@ use Rattle.rules.specs.Trees.{place_from, places_from}
 use Rattle.rules.specs.Grounds.{unknown, step_count, building_grounds}
 use Rattle.rules.specs.Calls.{make, refusal_of}
 use Rattle.rules.specs.Files.{place_order}
-use Rattle.rules.proofs.Lists.{All-nth, Clear-from_none, known, unfolded-push}
+use Rattle.rules.proofs.Lists.{All-slice_get, Clear-from_none, known, unfolded-push, length-unfolded, All-push, All-get_or}
 use Rattle.rules.proofs.Chains.{Chain}
 use Rattle.rules.proofs.Wider.{tables}
 use Rattle.theory.specs.ProperRuns.{PlaceFits}
 use Rattle.theory.specs.Knowledge.{same_place}
 use Rattle.shown.specs.Interned.{among, parent_among, each_below}
 use Rattle.theory.proofs.Parts.{place_same}
-use Rattle.accepted.proofs.Known.{nth_under, known_under, length-unfolded, not_different}
+use Rattle.accepted.proofs.Known.{known_under, not_different}
 use Rattle.accepted.proofs.Patterns.{ConstructorFits, schema}
+use Rattle.std.proofs.lemmas.Option.{slice_get-get_or}
 
 -- ── listed places ──
 
@@ -81,13 +81,13 @@ place_kept m ts cs ps r constructors each h =
     let j = or_parts (unknown cs (pos s)) (unknown (fields_in (slice_get cs s)) (pos i)) k.1 in
     let l = known_under places (pos r.parent) k.0 in
     let p : Place = get_or places r.parent whole in
-    let at : slice_get places r.parent ≡ Some p = nth_under places r.parent whole l in
+    let at : slice_get places r.parent ≡ Some p = slice_get-get_or places r.parent whole l in
     let q = All-get_or (PlaceKept (schema ts cs)) places r.parent whole l each in
     let c = known cs (pos s) j.0 in
     let f = known (fields_in (slice_get cs s)) (pos i) j.1 in
     let same : c.0.owner ≡ q.type = not_different (owner_in (slice_get cs s)) (and_then (slice_get places r.parent) (place_type (schema ts cs))) c.0.owner q.type (ap owner_in c.1)
     (ap (λ o. and_then o (place_type (schema ts cs))) at ∙ q.typed) g.1.1.0 in
-    let choice = (All-nth (ConstructorFits ts) cs s c.0 constructors c.1).choice in
+    let choice = (All-slice_get (ConstructorFits ts) cs s c.0 constructors c.1).choice in
     let few = leb-false 16 (step_count (slice_get places r.parent)) g.1.1.1.0 in
     let count = ap step_count at in
     let more = length_push (steps_of p) r.step in (

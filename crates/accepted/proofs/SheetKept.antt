@@ -1,34 +1,32 @@
 -- In every workbook that calls can make, patterns and clauses fit their types and keep their limits.
-use Rattle.std.proofs.Common.{◌≡◌, ℕ, ◌+◌, ◌<◌, ◌≤◌, true, false, List, [], ◌∷◌, ◌++◌, map, length, ℤ, pos, Some, None, Option, sym, refl, ap, ◌∙◌, subst, ap₂, arith}
-use Rattle.std.specs.List.{AllByRecursion, slice_get}
+use Rattle.std.proofs.Common.{◌≡◌, ℕ, ◌+◌, ◌<◌, ◌≤◌, false, List, [], ◌∷◌, ◌++◌, map, length, ℤ, pos, Some, None, Option, sym, refl, ap, ◌∙◌, subst, ap₂, arith}
+use Rattle.std.specs.List.{AllByRecursion, slice_get, All}
 use Rattle.std.proofs.lemmas.List.{map_push, length_push, length-map, get_or_append_left}
-use Rattle.std.proofs.ByRecursion.{All-push, All-weaker}
 use Rattle.std.proofs.lemmas.Bool.{true≢false, ltb-false, leb-false, or_parts}
 use Rattle.measure.specs.Measure.{Measure}
 use Rattle.pattern_file.specs.declared.names.CallName.{CallName}
 use Rattle.pattern_file.specs.declared.names.CallName.TheVariants as call
-use Rattle.rules.specs.declared.refusal.Refusal.{Refusal}
 use Rattle.rules.specs.declared.rows.TypeRow.{TypeRow}
 use Rattle.rules.specs.declared.rows.TypeRow.TheVariants.{Choice, Measured}
 use Rattle.rules.specs.declared.rows.ConstructorRow.{ConstructorRow}
 use Rattle.rules.specs.declared.rows.PatternRow.{PatternRow}
 use Rattle.rules.specs.declared.rows.ClauseRow.{ClauseRow}
-use Rattle.rules.specs.Tables.{numbers_of}
 use Rattle.rules.specs.Book.{Book, Schema, empty_book, schema_of, fields_in, is_measured, most_clauses}
 use Rattle.rules.specs.Sheets.{Pattern, any, Clause, clause_from, clauses_of, pattern_from, patterns_of, levels, weight}
 use Rattle.rules.specs.Rows.{type_row, constructor_row, any_row, bind_row, build_row, either_row, gauge_row, clause_row, part}
 use Rattle.rules.specs.Grounds.{unknown, any_unknown, type_of_pattern, pattern_at, new_pattern, sheet_weight, building_grounds}
-use Rattle.rules.specs.Calls.{Call, make, clear_sheet, clear_tree, judge, release, withdraw, Outcome, returned, refused, alike, differs, released, grounds, refusal_of, add_pattern, add_clause, made, made_by, after, if_returned, if_alike, without_sheet, without_tree, with_pass}
+use Rattle.rules.specs.Calls.{add_pattern, add_clause, made_by, without_sheet, without_tree, with_pass}
 use Rattle.rules.specs.Files.{constructor_order}
 use Rattle.rules.specs.RoundTrip.{Reached, start, next}
-use Rattle.rules.proofs.Lists.{All-nth, Clear, Clear-from_none, Begins, Begins-itself, Begins-append, known, unfolded-push}
+use Rattle.rules.proofs.Lists.{All-slice_get, Clear, Clear-from_none, Begins, Begins-itself, Begins-append, known, unfolded-push, length-unfolded, All-push, All-weaker}
 use Rattle.rules.proofs.Chains.{Chain}
 use Rattle.rules.proofs.Wider.{tables}
-use Rattle.rules.proofs.Kept.{SoundBook, Reached-sound}
+use Rattle.rules.proofs.Kept.{SoundBook, Reached-sound, after_keeps}
 use Rattle.theory.specs.Runs.{PatternFits, SheetFits}
 use Rattle.shown.specs.ShownGarment.{FourFields}
-use Rattle.accepted.proofs.Known.{known_under, length-unfolded, not_different}
+use Rattle.accepted.proofs.Known.{known_under, not_different}
 use Rattle.accepted.proofs.Patterns.{ConstructorFits, Fitted, earlier, type_named, any_fits, bind_fits, build_fits, either_fits, gauge_fits, fits_wider, Fitted-wider}
+use Rattle.std.proofs.lemmas.List.Elements.{All-from_recursion}
 
 -- ── constructors ──
 
@@ -39,12 +37,12 @@ choice_row (Measured s) h = absurd (true≢false h)
 constructors_fit : (m : Measure) (ts : List TypeRow) (cs rows : List ConstructorRow) (end : Book) → Chain m (tables ts cs [] [] []) (map constructor_order rows) end → AllByRecursion (ConstructorFits ts) rows
 constructors_fit m ts cs [] end c = tt
 constructors_fit m ts cs (r ∷ rows) end c =
-    let put : List ℤ = map pos (numbers_of r.fields) in
+    let put : List ℤ = map pos r.fields in
     let g = Clear-from_none (building_grounds m (tables ts cs [] [] []) call.Constructor put (pos r.owner)) c.0 in
     let k = known ts (pos r.owner) (or_parts (unknown ts (pos r.owner)) (any_unknown ts put) g.1.0).0 in
     let choice = choice_row k.0 (sym (ap is_measured k.1) ∙ g.1.1.0) in
     let few = ltb-false 4 (length put) g.0 in
-    let e = length-map (numbers_of r.fields) pos in
+    let e = length-map r.fields pos in
     (record { choice = k.1 ∙ ap Some choice; few = omega arith }, constructors_fit m ts (cs ++ constructor_row put (pos r.owner) ∷ []) rows end c.1)
 
 pub sound_constructors : (m : Measure) (b : Book) → SoundBook m b → AllByRecursion (ConstructorFits b.types) b.constructors
@@ -52,7 +50,7 @@ sound_constructors m b s = constructors_fit m b.types [] b.constructors (tables 
 
 few_in : (ts : List TypeRow) (cs : List ConstructorRow) (c : ℕ) (o : Option ConstructorRow) → slice_get cs c ≡ o → AllByRecursion (ConstructorFits ts) cs → length (fields_in o) ≤ 4
 few_in ts cs c None e a = omega arith
-few_in ts cs c (Some r) e a = (All-nth (ConstructorFits ts) cs c r a e).few
+few_in ts cs c (Some r) e a = (All-slice_get (ConstructorFits ts) cs c r a e).few
 
 pub four_fields : (ts : List TypeRow) (cs : List ConstructorRow) → AllByRecursion (ConstructorFits ts) cs → FourFields (record { types = ts; constructors = cs })
 four_fields ts cs a c = few_in ts cs c (slice_get cs c) refl a
@@ -156,43 +154,15 @@ made_kept m b call.Switch put own a s c = same_sheet b (made_by b call.Switch pu
 made_kept m b call.Test put own a s c = same_sheet b (made_by b call.Test put own) s
 made_kept m b call.Ask put own a s c = same_sheet b (made_by b call.Ask put own) s
 
--- ── any call, by its outcome ──
-
-if_returned_lem : (P : Book → Type 0) (o : Outcome) (new old : Book) → ((n : ℕ) → o ≡ returned n → P new) → P old → P (if_returned o new old)
-if_returned_lem P (returned n) new old f p = f n refl
-if_returned_lem P (refused r) new old f p = p
-if_returned_lem P alike new old f p = p
-if_returned_lem P (differs es ns) new old f p = p
-if_returned_lem P (released bytes) new old f p = p
-
-if_alike_lem : (P : Book → Type 0) (o : Outcome) (new old : Book) → P new → P old → P (if_alike o new old)
-if_alike_lem P (returned n) new old q p = p
-if_alike_lem P (refused r) new old q p = p
-if_alike_lem P alike new old q p = q
-if_alike_lem P (differs es ns) new old q p = p
-if_alike_lem P (released bytes) new old q p = p
-
--- a call that returned a number had no ground
-not_refused : (g : Option Refusal) (o : Outcome) (n : ℕ) → ((r : Refusal) → g ≡ Some r → o ≡ refused r) → o ≡ returned n → g ≡ None
-not_refused None o n h e = refl
-not_refused (Some r) o n h e = let k : o ≡ refused r = h r refl in let z : ◌≡◌ {A = ℕ} 0 1 = cc in let x : ⊥ = omega arith in absurd x
-
 no_sheet : (b : Book) → SheetKept (without_sheet b)
 no_sheet b = record { patterns = tt; clauses = tt; naming = tt; light = omega arith; short = omega arith }
 
-after_kept : (m : Measure) (b : Book) (c : Call) (o : Outcome) → AllByRecursion (ConstructorFits b.types) b.constructors → SheetKept b → ((r : Refusal) → refusal_of m b c ≡ Some r → o ≡ refused r) → SheetKept (after b c o)
-after_kept m b (make x) o a s h =
-    if_returned_lem SheetKept o (made b x) b
-    (λ n e. made_kept m b x.name x.put x.own a s (Clear-from_none (grounds m b (make x)) (not_refused (refusal_of m b (make x)) o n h e)).1) s
-after_kept m b clear_sheet o a s h = if_returned_lem SheetKept o (without_sheet b) b (λ n e. no_sheet b) s
-after_kept m b clear_tree o a s h = if_returned_lem SheetKept o (without_tree b) b (λ n e. same_sheet b (without_tree b) s) s
-after_kept m b (judge w e n) o a s h = if_alike_lem SheetKept o (with_pass b true) b (same_sheet b (with_pass b true) s) s
-after_kept m b (release n) o a s h = same_sheet b (with_pass b false) s
-after_kept m b withdraw o a s h = same_sheet b (with_pass b false) s
-
 pub Reached-sheet : (m : Measure) (b : Book) → Reached m b → SheetKept b
 Reached-sheet m b start = no_sheet empty_book
-Reached-sheet m b (next old c o r h) = after_kept m old c o (sound_constructors m old (Reached-sound m old r)) (Reached-sheet m old r) h
+Reached-sheet m b (next old c o r h) =
+    let s = Reached-sheet m old r in
+    after_keeps SheetKept m old c o h s (λ x put own. made_kept m old x put own (sound_constructors m old (Reached-sound m old r)) s) (no_sheet old)
+    (same_sheet old (without_tree old) s) (λ out. same_sheet old (with_pass old out) s)
 
 -- ── the sheet of a workbook ──
 
@@ -200,6 +170,6 @@ pub sheet_fits : (d : Schema) (ks : List Clause) → AllByRecursion (ClauseFits 
 sheet_fits d [] a = tt
 sheet_fits d (k ∷ ks) a = (a.0.0, sheet_fits d ks a.1)
 
-pub sheet_flat : (d : Schema) (ks : List Clause) → AllByRecursion (ClauseFits d) ks → AllByRecursion (λ k. levels k.pattern ≤ 16) ks
-sheet_flat d [] a = tt
-sheet_flat d (k ∷ ks) a = (a.0.1, sheet_flat d ks a.1)
+pub sheet_flat : (d : Schema) (ks : List Clause) → AllByRecursion (ClauseFits d) ks → All (λ k. levels k.pattern ≤ 16) ks
+sheet_flat d ks a =
+    All-from_recursion (λ k. levels k.pattern ≤ 16) ks (All-weaker (ClauseFits d) (λ k. levels k.pattern ≤ 16) (λ k f. f.1) ks a)

@@ -1,8 +1,7 @@
 -- In every workbook that calls can make, each tree fits, names listed places only, and keeps its limits.
-use Rattle.std.proofs.Common.{◌≡◌, ℕ, zero, suc, ◌≤◌, true, false, List, [], ◌∷◌, ◌++◌, map, length, get_or, take, drop, ℤ, Some, None, Option, sym, refl, ap, ◌∙◌, subst, arith}
+use Rattle.std.proofs.Common.{◌≡◌, ℕ, zero, suc, ◌≤◌, true, false, ltb, List, [], ◌∷◌, ◌++◌, map, length, get_or, take, drop, ℤ, Some, None, Option, sym, refl, ap, ◌∙◌, subst, arith}
 use Rattle.std.specs.List.{AllByRecursion, slice_get}
-use Rattle.std.proofs.lemmas.List.{length-append, length-drop, length-take, drop-append-le, take-append-le}
-use Rattle.std.proofs.ByRecursion.{All-push, All-weaker}
+use Rattle.std.proofs.lemmas.List.{length-append, length-drop}
 use Rattle.std.proofs.lemmas.Bool.{ltb-false, or_parts, and_from}
 use Rattle.measure.specs.Measure.{Measure}
 use Rattle.guards.specs.Questions.{and_then}
@@ -13,15 +12,15 @@ use Rattle.rules.specs.declared.rows.PlaceRow.{PlaceRow}
 use Rattle.rules.specs.declared.rows.PairRow.{PairRow}
 use Rattle.rules.specs.declared.rows.NodeRow.{NodeRow}
 use Rattle.rules.specs.declared.rows.NodeRow.TheVariants.{Leaf, Fail, Never, Switch, Test, Ask}
-use Rattle.rules.specs.Tables.{unfolded, natural, naturals, named, numbers_of, up_to_four}
+use Rattle.rules.specs.Tables.{unfolded, natural, naturals, named}
 use Rattle.rules.specs.Book.{Book, Schema, is_choice, is_measured}
-use Rattle.rules.specs.Garments.{Place, whole, place_type}
+use Rattle.rules.specs.Garments.{Place, whole, place_type, steps_of}
 use Rattle.rules.specs.Rows.{part, optional, leaf_row, pair_rows, switch_row, test_row, ask_row}
 use Rattle.rules.specs.Trees.{Tree, Branches, fail, switch, places_from, places_at, branches_from, node_from, nodes_of, depth}
 use Rattle.rules.specs.Grounds.{unknown, row_of, new_tree, building_grounds}
 use Rattle.rules.specs.Calls.{Order}
 use Rattle.rules.specs.Files.{node_order}
-use Rattle.rules.proofs.Lists.{Clear, Clear-from_none, known, unfolded-push}
+use Rattle.rules.proofs.Lists.{Clear, Clear-from_none, known, unfolded-push, length-naturals, All-push, All-weaker, take-drop-append}
 use Rattle.rules.proofs.Chains.{Chain}
 use Rattle.rules.proofs.Wider.{tables, TypeKnown, all_named}
 use Rattle.rules.proofs.Sound.{Held}
@@ -29,38 +28,28 @@ use Rattle.theory.specs.ProperRuns.{PlacesFit, TreeFits, BranchesFit}
 use Rattle.shown.specs.Interned.{among, all_among}
 use Rattle.shown.specs.Budgets.{tree_among, branches_among}
 use Rattle.shown.specs.ShownAnswers.{Short, TreeShort, BranchesShort}
-use Rattle.accepted.proofs.Known.{get_d_from_nth}
-use Rattle.accepted.proofs.Patterns.{schema, measured_row, nth_natural}
+use Rattle.accepted.proofs.Patterns.{schema, measured_row, slice_get-natural}
 use Rattle.accepted.proofs.SheetKept.{choice_row}
 use Rattle.accepted.proofs.PlacesKept.{PlaceKept, place_at, listed_at}
+use Rattle.std.proofs.lemmas.Option.{get_or_from_slice_get}
+use Rattle.rules.proofs.Kept.{held_more}
+use Rattle.std.proofs.lemmas.List.Elements.{All-nil, All-cons, All-from_recursion}
+use Rattle.theory.proofs.Naming.{same_made}
 
 -- ── the pairs of earlier switches stay where they are ──
-
-held_more : (qs new : List PairRow) (r : NodeRow) → Held qs r → Held (qs ++ new) r
-held_more qs new (Leaf a ps) h = tt
-held_more qs new Fail h = tt
-held_more qs new Never h = tt
-held_more qs new (Switch p o first count) h = let e = length-append qs new in omega arith
-held_more qs new (Test p t y n) h = tt
-held_more qs new (Ask g ps y n) h = tt
 
 same_node : (places : List Place) (qs new : List PairRow) (before : List Tree) (r : NodeRow) → Held qs r → node_from places (qs ++ new) before r ≡ node_from places qs before r
 same_node places qs new before (Leaf a ps) h = refl
 same_node places qs new before Fail h = refl
 same_node places qs new before Never h = refl
-same_node places qs new before (Switch p o first count) h =
-    let l = length-drop first qs in
-    ap (λ x. switch (get_or places p whole) (branches_from before x o))
-    (ap (take count) (drop-append-le first qs new (omega arith)) ∙ take-append-le count (drop first qs) new (omega arith))
+same_node places qs new before (Switch p o first count) h = ap (λ x. switch (get_or places p whole) (branches_from before x o)) (take-drop-append qs new first count h)
 same_node places qs new before (Test p t y n) h = refl
 same_node places qs new before (Ask g ps y n) h = refl
 
-same_nodes : (places : List Place) (qs new : List PairRow) (before : List Tree) (rows : List NodeRow) → AllByRecursion (Held qs) rows
-    → unfolded (node_from places (qs ++ new)) before rows ≡ unfolded (node_from places qs) before rows
-same_nodes places qs new before [] a = refl
-same_nodes places qs new before (r ∷ rows) a =
-    ap (λ t. unfolded (node_from places (qs ++ new)) (before ++ t ∷ []) rows) (same_node places qs new before r a.0)
-    ∙ same_nodes places qs new (before ++ node_from places qs before r ∷ []) rows a.1
+same_nodes : (places : List Place) (qs new : List PairRow) (rows : List NodeRow) → AllByRecursion (Held qs) rows
+    → unfolded (node_from places (qs ++ new)) [] rows ≡ unfolded (node_from places qs) [] rows
+same_nodes places qs new rows a =
+    same_made (node_from places (qs ++ new)) (node_from places qs) (Held qs) (λ before r h. same_node places qs new before r h) [] rows (All-from_recursion (Held qs) rows a)
 
 -- ── trees that keep the limits ──
 
@@ -94,20 +83,21 @@ module _ (m : Measure) (ts : List TypeRow) (cs : List ConstructorRow) (ps : List
   table = whole ∷ drop 1 places
 
   list_kept : (ns : List ℕ) → ListKept d table (places_at places ns)
-  list_kept [] = record { fits = tt; short = tt; listed = refl }
+  list_kept [] = record { fits = tt; short = All-nil (λ p. length (steps_of p) ≤ 16); listed = refl }
   list_kept (n ∷ ns) =
       let p = place_at ts cs places n kept in
       let i = list_kept ns in
-      record { fits = (p.fits, i.fits); short = (p.short, i.short); listed = and_from (among table (get_or places n whole)) (all_among table (places_at places ns)) (listed_at ts ps n) i.listed }
+      record { fits = (p.fits, i.fits); short = All-cons (λ q. length (steps_of q) ≤ 16) (get_or places n whole) (places_at places ns) p.short i.short; listed = and_from (among table (get_or places n whole)) (all_among table (places_at places ns)) (listed_at ts ps n) i.listed }
 
   length_at : (ns : List ℕ) → length (places_at places ns) ≡ length ns
   length_at [] = refl
   length_at (n ∷ ns) = ap suc (length_at ns)
 
-  few_at : (l : List ℕ) → length (places_at places (numbers_of (up_to_four l))) ≤ 4
-  few_at l =
-      let e = length_at (numbers_of (up_to_four l)) in
-      let t = length-take (length l) (get_or l 0 0 ∷ (get_or l 1 0 ∷ (get_or l 2 0 ∷ (get_or l 3 0 ∷ [])))) in
+  few_at : (put : List ℤ) → length put ≤ 6 → length (places_at places (naturals (drop 2 put))) ≤ 4
+  few_at put h =
+      let e = length_at (naturals (drop 2 put)) in
+      let n = length-naturals (drop 2 put) in
+      let k = length-drop 2 put in
       omega arith
 
   -- an unknown number is taken for a fail
@@ -134,7 +124,7 @@ module _ (m : Measure) (ts : List TypeRow) (cs : List ConstructorRow) (ps : List
   row_at z h =
       let k = known places z h in
       let y = all_named (TypeKnown ts cs) places z k.0 typed k.1 in
-      let e : get_or places (natural z) whole ≡ k.0 = get_d_from_nth places (natural z) k.0 whole (nth_natural places z k.0 k.1) in (
+      let e : get_or places (natural z) whole ≡ k.0 = get_or_from_slice_get places (natural z) k.0 whole (slice_get-natural places z k.0 k.1) in (
         y.0,
         y.1,
         ap (place_type d) e ∙ y.2,
@@ -147,7 +137,7 @@ module _ (m : Measure) (ts : List TypeRow) (cs : List ConstructorRow) (ps : List
     b = tables ts cs ps ns prs
 
     leaf_kept : (put : List ℤ) (own : ℤ) → TreeKept d table (new_tree b [] (leaf_row put own))
-    leaf_kept put own = let l = list_kept (numbers_of (up_to_four (naturals put))) in record { fits = l.fits; short = tt; listed = l.listed; shallow = omega arith }
+    leaf_kept put own = let l = list_kept (naturals put) in record { fits = l.fits; short = tt; listed = l.listed; shallow = omega arith }
 
     switch_kept : (put : List ℤ) (own : ℤ) → Clear (building_grounds m b call.Switch put own) → TreeKept d table (new_tree b (pair_rows (drop 1 put)) (switch_row (length prs) put own))
     switch_kept put own c =
@@ -183,13 +173,14 @@ module _ (m : Measure) (ts : List TypeRow) (cs : List ConstructorRow) (ps : List
 
     ask_kept : (put : List ℤ) (own : ℤ) → Clear (building_grounds m b call.Ask put own) → TreeKept d table (new_tree b [] (ask_row put own))
     ask_kept put own c =
-        let l = list_kept (numbers_of (up_to_four (naturals (drop 2 put)))) in
+        let l = list_kept (naturals (drop 2 put)) in
+        let few = ltb-false 6 (length put) (or_parts (ltb (length put) 2) (ltb 6 (length put)) c.0).1 in
         let yes_tree = tree_at (nodes_of b) (natural (part put 0)) trees in
         let no_tree = tree_at (nodes_of b) (natural (part put 1)) trees in
         let shallow = ltb-false 32 (depth (new_tree b [] (ask_row put own))) c.1.1.0 in
         record {
           fits = (l.fits, yes_tree.fits, no_tree.fits);
-          short = ((few_at (naturals (drop 2 put)), l.short), (yes_tree.short, no_tree.short));
+          short = ((few_at put few, l.short), (yes_tree.short, no_tree.short));
           listed = and_from _ _ l.listed (and_from _ _ yes_tree.listed no_tree.listed);
           shallow = omega arith;
         }
@@ -199,7 +190,7 @@ module _ (m : Measure) (ts : List TypeRow) (cs : List ConstructorRow) (ps : List
       → AllByRecursion (TreeKept d table) (nodes_of (tables ts cs ps (ns ++ r ∷ []) (prs ++ new)))
   pushed ns prs new r held trees t =
       let before : List Tree = nodes_of (tables ts cs ps ns prs) in
-      subst (AllByRecursion (TreeKept d table)) (sym (unfolded-push (node_from places (prs ++ new)) [] ns r ∙ ap (λ l. l ++ node_from places (prs ++ new) l r ∷ []) (same_nodes places prs new [] ns held)))
+      subst (AllByRecursion (TreeKept d table)) (sym (unfolded-push (node_from places (prs ++ new)) [] ns r ∙ ap (λ l. l ++ node_from places (prs ++ new) l r ∷ []) (same_nodes places prs new ns held)))
       (All-push (TreeKept d table) before (node_from places (prs ++ new) before r) trees t)
 
   Held-push : (ns : List NodeRow) (prs new : List PairRow) (r : NodeRow) → AllByRecursion (Held prs) ns → Held (prs ++ new) r → AllByRecursion (Held (prs ++ new)) (ns ++ r ∷ [])

@@ -2,8 +2,7 @@
 ghost use Rattle.accepted.specs.Releases.{ReleasesFaithful};
 
 // Where sheet and tree are alike, the file of a release is read without a fault, and the tree there answers as the sheet did.
-pub fn releases_faithful() -> u8
+#[tactic(auto, using(crate::proofs::Faithfulness::releases_faithful))]
+pub fn releases_faithful()
     ensures { ReleasesFaithful }
-{
-    0
-}
+{}

@@ -1,13 +1,14 @@
 -- Every place that a match binds stands in the value, and has a part.
 use Rattle.std.proofs.Common.{◌≡◌, ℕ, suc, ◌+◌, Bool, true, false, cond, ◌&&◌, eqb, List, is_some, Some, None, sym, refl, ap, ◌∙◌, subst, add-zero, zero-add, arith}
-use Rattle.std.specs.List.{AllByRecursion}
+use Rattle.std.specs.List.{AllByRecursion, All}
 use Rattle.std.proofs.lemmas.Bool.{eqb-true, eq-eqb, and_from}
-use Rattle.std.proofs.ByRecursion.{All-append}
 use Rattle.measure.specs.Measure.{Measure, gives}
 use Rattle.rules.specs.Garments.{Value, Values, built, measured, no_values, with_value, Place, whole, field_at, step_into, part_at, built_by, stands}
 use Rattle.rules.specs.Sheets.{Pattern, Patterns, any, bind, build, either, gauge, no_patterns, with_pattern, Binding, Bound, both, or_else, binding, field, matches, matches_all}
 use Rattle.rules.specs.PlaceLaws.{Found, PlacesAreSteps}
 use Rattle.rules.proofs.PlaceSteps.{same_place, walked, standing_fits, fits_standing, part_stands}
+use Rattle.rules.proofs.Lists.{All-append}
+use Rattle.std.proofs.lemmas.List.Elements.{All-from_recursion}
 
 next : (i j : ℕ) → suc i + j ≡ i + suc j
 next i j = omega arith
@@ -72,8 +73,8 @@ module _ (m : Measure) (v : Value) where
         (finds q (field p c i) w (h, ap (λ n. part_at v (field p c n)) (sym (add-zero i)) ∙ k 0))
         (finds_all qs p c (suc i) vs h (λ j. ap (λ n. part_at v (field p c n)) (next i j) ∙ k (suc j)))
 
-pub bound_Found : (m : Measure) (q : Pattern) (v : Value) (bs : List Binding) → matches m q whole v ≡ Some bs → AllByRecursion (λ k. Found v k.place) bs
-bound_Found m q v bs e = subst (Finds v) e (finds m v q whole v (refl, refl))
+pub bound_Found : (m : Measure) (q : Pattern) (v : Value) (bs : List Binding) → matches m q whole v ≡ Some bs → All (λ k. Found v k.place) bs
+bound_Found m q v bs e = All-from_recursion (λ k. Found v k.place) bs (subst (Finds v) e (finds m v q whole v (refl, refl)))
 
 pub places_are_steps : PlacesAreSteps
 places_are_steps = record {

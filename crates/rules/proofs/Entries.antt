@@ -12,7 +12,6 @@ use Rattle.rules.specs.declared.rows.PlaceRow.{PlaceRow}
 use Rattle.rules.specs.declared.rows.PairRow.{PairRow}
 use Rattle.rules.specs.declared.rows.NodeRow.{NodeRow}
 use Rattle.rules.specs.declared.rows.NodeRow.TheVariants.{Leaf, Fail, Never, Switch, Test, Ask}
-use Rattle.rules.specs.Tables.{unfolded, numbers_of}
 use Rattle.rules.specs.Book.{Book, most_types, most_constructors, most_places, most_nodes, most_pairs}
 use Rattle.rules.specs.Garments.{whole}
 use Rattle.rules.specs.Rows.{constructor_row, leaf_row, pair_rows, switch_row, test_row, ask_row}
@@ -21,7 +20,7 @@ use Rattle.rules.specs.Grounds.{building_grounds, unknown}
 use Rattle.rules.specs.Calls.{Order}
 use Rattle.rules.specs.Files.{type_order, constructor_order, place_order, pair_numbers, node_order, order_entries}
 use Rattle.rules.proofs.Chains.{Chain}
-use Rattle.rules.proofs.Lists.{Clear-from_none}
+use Rattle.rules.proofs.Lists.{Clear-from_none, length-unfolded}
 use Rattle.rules.proofs.Wider.{tables}
 
 -- the entries of orders
@@ -61,7 +60,7 @@ pub constructors_within : (m : Measure) (ts : List TypeRow) (cs rows end : List 
     → Chain m (tables ts cs [] [] []) (map constructor_order rows) (tables ts end [] [] []) → (length end ≤ most_constructors) × (entries (map constructor_order rows) ≤ 5 * length rows)
 constructors_within m ts cs [] end l c = let e = ap (λ (b : Book). length b.constructors) c in (omega arith, omega arith)
 constructors_within m ts cs (r ∷ rows) end l c =
-    let put : List ℤ = map pos (numbers_of r.fields) in
+    let put : List ℤ = map pos r.fields in
     let k = Clear-from_none (building_grounds m (tables ts cs [] [] []) call.Constructor put (pos r.owner)) c.0 in
     let f = leb-false most_constructors (length cs) k.1.1.1.0 in
     let g = ltb-false 4 (length put) k.0 in
@@ -69,13 +68,6 @@ constructors_within m ts cs (r ∷ rows) end l c =
     let i = constructors_within m ts (cs ++ constructor_row put (pos r.owner) ∷ []) rows end (omega arith) c.1 in
     let e = more_orders (constructor_order r) (map constructor_order rows) in
     (i.0, omega arith)
-
-length-unfolded : {R A : Type 0} (from : List A → R → A) (before : List A) (rows : List R) → length (unfolded from before rows) ≡ length before + length rows
-length-unfolded from before [] = omega arith
-length-unfolded from before (r ∷ rows) =
-    let e = length_push before (from before r) in
-    let i = length-unfolded from (before ++ from before r ∷ []) rows in
-    omega arith
 
 places_counted : (ts : List TypeRow) (ps : List PlaceRow) (z : ℤ) → unknown (places_from ts ps) z ≡ false → length (places_from ts ps) ≡ 1 + length ps
 places_counted [] ps (pos n) h = absurd (true≢false h)

@@ -10,7 +10,9 @@ use Rattle.rules.specs.Sheets.{clauses_of, sheet_answer}
 use Rattle.rules.specs.Trees.{Same, start_of}
 use Rattle.rules.specs.Law.{start_answer, Alike}
 use Rattle.rules.specs.Samples.{book_of, missing_branch}
-use Rattle.rules.proofs.WellTyped.{choice≢measured, none≢some, Alike-by_values}
+use Rattle.rules.proofs.WellTyped.{Alike-by_values}
+use Rattle.std.proofs.lemmas.Option.{none-some}
+use Rattle.rules.proofs.Facts.{choice≢measured}
 
 -- every constructor of a type has a field of that type
 abbrev OnlyItself : Schema → ℕ → Type 0
@@ -24,7 +26,7 @@ module _ (m : Measure) (d : Schema) (t : ℕ) (choice : slice_get d.types t ≡ 
     no_value (measured s a) h = choice≢measured s (sym choice ∙ h.0)
 
     no_field : (vs : Values) (ts : List ℕ) (i : ℕ) → OfTypes m d ts vs → slice_get ts i ≡ Some t → ⊥
-    no_field no_values [] i h e = none≢some t e
+    no_field no_values [] i h e = none-some t e
     no_field no_values (k ∷ ts) i h e = h
     no_field (with_value v vs) [] i h e = h
     no_field (with_value v vs) (k ∷ ts) zero h e =
@@ -50,14 +52,14 @@ module _ (m : Measure) where
   only_one zero e = let z : ◌≡◌ {A = ℕ} 0 1 = some_injective 0 1 e in absurd (let q : ⊥ = omega arith in q)
   only_one (suc zero) e = let z : ◌≡◌ {A = ℕ} 0 1 = some_injective 0 1 e in absurd (let q : ⊥ = omega arith in q)
   only_one (suc (suc zero)) e = (0, refl)
-  only_one (suc (suc (suc c))) e = absurd (none≢some 1 e)
+  only_one (suc (suc (suc c))) e = absurd (none-some 1 e)
 
   same_branch : (v : Value) (rule : Rule) → OfType m (schema_of branch_book) 0 v → Same (sheet_answer m (clauses_of branch_book) v rule) (start_answer m (start_of branch_book) v rule)
   same_branch (built zero vs) rule h = (refl, refl)
   same_branch (built (suc zero) no_values) rule h = absurd h.2
   same_branch (built (suc zero) (with_value v vs)) rule h = absurd (no_value m (schema_of branch_book) 1 refl only_one v h.2.0)
   same_branch (built (suc (suc zero)) vs) rule h = let z : ◌≡◌ {A = ℕ} 1 0 = some_injective 1 0 h.1 in absurd (let q : ⊥ = omega arith in q)
-  same_branch (built (suc (suc (suc c))) vs) rule h = absurd (none≢some 0 h.1)
+  same_branch (built (suc (suc (suc c))) vs) rule h = absurd (none-some 0 h.1)
   same_branch (measured s a) rule h = absurd (choice≢measured s h.0)
 
 pub branch_Alike : (m : Measure) → Alike m (book_of m missing_branch)

@@ -11,7 +11,9 @@ use Rattle.rules.specs.Trees.{Same, start_of}
 use Rattle.rules.specs.Law.{sheet_says, start_answer, Alike}
 use Rattle.rules.specs.Samples.{book_of, no_children, pair_sheet, asks_once, asks_again}
 use Rattle.rules.specs.Examples.{OnlySecond, first_field, second_field}
-use Rattle.rules.proofs.WellTyped.{choice≢measured, none≢some, garments_are_values, Alike-by_values}
+use Rattle.rules.proofs.WellTyped.{garments_are_values, Alike-by_values}
+use Rattle.std.proofs.lemmas.Option.{none-some}
+use Rattle.rules.proofs.Facts.{choice≢measured}
 
 pub never_other_side : (m : Measure) (left right : Pattern) (guard action : ℕ) (ks : List Clause) (v : Value) (rule : Rule) (bs : List Binding)
     → matches m left whole v ≡ Some bs → rule (question guard (list_of bs)) ≡ false
@@ -30,7 +32,7 @@ by_pair P p (built zero no_values) h = absurd h.2
 by_pair P p (built zero (with_value v no_values)) h = absurd h.2.1
 by_pair P p (built zero (with_value v (with_value w no_values))) h = p v w
 by_pair P p (built zero (with_value v (with_value w (with_value x vs)))) h = absurd h.2.1.1
-by_pair P p (built (suc c) vs) h = absurd (none≢some 0 h.1)
+by_pair P p (built (suc c) vs) h = absurd (none-some 0 h.1)
 by_pair P p (measured s a) h = absurd (choice≢measured s h.0)
 
 pub next_clause : (es : List GarmentEntry) (rule : Rule) → well_typed millimetres pair_schema es ≡ true → OnlySecond rule → sheet_says millimetres (book_of millimetres pair_sheet) es rule ≡ acts 8 []

@@ -1,6 +1,6 @@
 -- The sample: its sheet and tree differ on the length 200 only.
 use Rattle.std.proofs.Common.{◌≡◌, ℕ, zero, suc, Bool, true, false, cond, ◌&&◌, List, [], ℤ, pos, sym, refl, ap, subst, arith}
-use lib.Signed.{le_z}
+use Rattle.std.specs.Int.Signed.{le_z}
 use Rattle.std.proofs.lemmas.Int.{ints}
 use Rattle.guards.specs.Questions.{Rule}
 use Rattle.millimetres.specs.Millimetres.{measurable}
@@ -12,7 +12,9 @@ use Rattle.rules.specs.Trees.{Same, start_of}
 use Rattle.rules.specs.Law.{sheet_says, tree_says, start_answer, Alike}
 use Rattle.rules.specs.Samples.{shop_measure, sample_book, with_length}
 use Rattle.rules.specs.Examples.{sample_value}
-use Rattle.rules.proofs.WellTyped.{choice≢measured, none≢some, garments_are_values, Alike-by_values}
+use Rattle.rules.proofs.WellTyped.{garments_are_values, Alike-by_values}
+use Rattle.std.proofs.lemmas.Option.{none-some}
+use Rattle.rules.proofs.Facts.{choice≢measured}
 
 abbrev sample_schema : Schema
 sample_schema = schema_of (sample_book (pos 199))
@@ -28,7 +30,7 @@ by_length P p q (built (suc zero) (with_value (measured s a) no_values)) h =
     let k : shop_measure.atom 0 a ≡ true = subst (λ z. shop_measure.atom z a ≡ true) e h.2.0.1 in
     subst (λ z. P (built 1 (with_value (measured z a) no_values))) (sym e) (q a k)
 by_length P p q (built (suc zero) (with_value v (with_value w ws))) h = absurd h.2.1
-by_length P p q (built (suc (suc c)) vs) h = absurd (none≢some 0 h.1)
+by_length P p q (built (suc (suc c)) vs) h = absurd (none-some 0 h.1)
 by_length P p q (measured s a) h = absurd (choice≢measured s h.0)
 
 -- what is answered to a length, by whether it is at most the limit

@@ -1,11 +1,12 @@
 -- A clause that does not accept is passed over, and one that accepts answers.
 use Rattle.std.proofs.Common.{◌≡◌, ℕ, Bool, true, false, cond, List, [], ◌∷◌, ◌++◌, Some, None, Option, refl, ap, ◌∙◌}
-use Rattle.std.specs.List.{AllByRecursion}
+use Rattle.std.specs.List.{All}
 use Rattle.measure.specs.Measure.{Measure}
 use Rattle.guards.specs.Questions.{Rule, Steps}
 use Rattle.rules.specs.Garments.{Value, whole}
 use Rattle.rules.specs.Sheets.{Binding, Bound, Clause, Answer, acts, none, list_of, matches, question, guarded, tried, sheet_answer}
 use Rattle.rules.specs.FirstClause.{GuardAgrees, Accepts, PassedOver, FirstClauseAnswers}
+use Rattle.std.proofs.lemmas.List.Elements.{All-head, All-tail}
 
 -- a guard that does not agree hands on
 handed_on : (rule : Rule) (g : Option ℕ) (action : ℕ) (ps : List Steps) (rest : Answer) → (GuardAgrees rule g ps → ⊥) → guarded rule g action ps rest ≡ rest
@@ -30,13 +31,13 @@ module _ (m : Measure) (rule : Rule) (v : Value) where
       go (Some bs) e = handed_on rule k.guard k.action (list_of bs) rest (λ a. h bs (e, a))
 
   first_answers : (before : List Clause) (k : Clause) (after : List Clause) (bs : List Binding)
-      → AllByRecursion (PassedOver m rule v) before → Accepts m rule v k bs → sheet_answer m (before ++ k ∷ after) v rule ≡ acts k.action (list_of bs)
+      → All (PassedOver m rule v) before → Accepts m rule v k bs → sheet_answer m (before ++ k ∷ after) v rule ≡ acts k.action (list_of bs)
   first_answers [] k after bs h a = ap (λ (o : Bound). tried rule k o (sheet_answer m after v rule)) a.0 ∙ answered rule k.guard k.action (list_of bs) (sheet_answer m after v rule) a.1
-  first_answers (j ∷ before) k after bs h a = passed j (sheet_answer m (before ++ k ∷ after) v rule) h.0 ∙ first_answers before k after bs h.1 a
+  first_answers (j ∷ before) k after bs h a = passed j (sheet_answer m (before ++ k ∷ after) v rule) (All-head (PassedOver m rule v) j before h) ∙ first_answers before k after bs (All-tail (PassedOver m rule v) j before h) a
 
-  none_of : (ks : List Clause) → AllByRecursion (PassedOver m rule v) ks → sheet_answer m ks v rule ≡ none
+  none_of : (ks : List Clause) → All (PassedOver m rule v) ks → sheet_answer m ks v rule ≡ none
   none_of [] h = refl
-  none_of (k ∷ ks) h = passed k (sheet_answer m ks v rule) h.0 ∙ none_of ks h.1
+  none_of (k ∷ ks) h = passed k (sheet_answer m ks v rule) (All-head (PassedOver m rule v) k ks h) ∙ none_of ks (All-tail (PassedOver m rule v) k ks h)
 
 pub first_clause_answers : FirstClauseAnswers
 first_clause_answers = record { first = first_answers; no_clause = none_of }

@@ -1,7 +1,6 @@
 -- The numbers that a release writes are signed 64-bit numbers.
 use Rattle.std.proofs.Common.{◌≡◌, ℕ, ◌<◌, ◌≤◌, Bool, true, false, not, ◌&&◌, ◌||◌, eqb, ltb, leb, List, [], ◌∷◌, ◌++◌, map, length, drop, ℤ, pos, negsuc, is_some, Some, Option, sym, refl, ap, ◌∙◌, ⊎_elim, arith, w64, SFits}
 use Rattle.std.specs.List.{flat_map, AllByRecursion}
-use Rattle.std.proofs.ByRecursion.{All-append}
 use Rattle.std.proofs.lemmas.List.{length-map}
 use Rattle.std.proofs.lemmas.Option.{slice_get_past}
 use Rattle.std.proofs.lemmas.Bool.{true≢false, not-false, eqb-true, cases_lt, ltb-true, ltb-false, leb-false, or_parts, and_cases}
@@ -18,7 +17,7 @@ use Rattle.rules.specs.declared.rows.PlaceRow.{PlaceRow}
 use Rattle.rules.specs.declared.rows.PairRow.{PairRow}
 use Rattle.rules.specs.declared.rows.NodeRow.{NodeRow}
 use Rattle.rules.specs.declared.rows.NodeRow.TheVariants.{Leaf, Fail, Never, Switch, Test, Ask}
-use Rattle.rules.specs.Tables.{named, numbers_of}
+use Rattle.rules.specs.Tables.{named}
 use Rattle.rules.specs.Book.{Book, fields_in, is_choice, sort_in, most_places, most_nodes}
 use Rattle.rules.specs.Garments.{place_type}
 use Rattle.rules.specs.Rows.{constructor_row, leaf_row, pair_rows, switch_row, test_row, ask_row}
@@ -27,7 +26,7 @@ use Rattle.rules.specs.Grounds.{unknown, any_unknown, is_minus_one, is_code, row
 use Rattle.rules.specs.Calls.{Order}
 use Rattle.rules.specs.Files.{or_minus_one, type_order, constructor_order, place_order, node_order, order_entries}
 use Rattle.rules.proofs.Chains.{Chain}
-use Rattle.rules.proofs.Lists.{Clear-from_none, known}
+use Rattle.rules.proofs.Lists.{Clear-from_none, known, All-append}
 use Rattle.rules.proofs.Wider.{tables, TypeKnown, all_named}
 use Rattle.rules.proofs.Sound.{fields_known, whole_typed, places_typed}
 use Rattle.rules.proofs.Entries.{types_within, constructors_within, places_within, places_length}
@@ -83,7 +82,7 @@ module _ (m : Measure) (lawful : Lawful m) where
 
   -- at most four fields
   abbrev FewFields : ConstructorRow → Type 0
-  FewFields r = length (numbers_of r.fields) ≤ 256
+  FewFields r = length r.fields ≤ 256
 
   constructors_fit : (ts : List TypeRow) (cs rows : List ConstructorRow) (end : Book) → length ts ≤ 256 → Chain m (tables ts cs [] [] []) (map constructor_order rows) end
       → AllByRecursion Fit (map constructor_order rows) × AllByRecursion FewFields rows
@@ -93,7 +92,7 @@ module _ (m : Measure) (lawful : Lawful m) where
       let k = Clear-from_none (building_grounds m (tables ts cs [] [] []) call.Constructor x.put x.own) c.0 in
       let j = or_parts (unknown ts x.own) (any_unknown ts x.put) k.1.0 in
       let n = ltb-false 4 (length x.put) k.0 in
-      let e = length-map (numbers_of r.fields) pos in
+      let e = length-map r.fields pos in
       let i = constructors_fit ts (cs ++ constructor_row x.put x.own ∷ []) rows end l c.1 in
       (((All-known_fit ts l x.put j.1, known_fits ts l x.own j.0), i.0), (omega arith, i.1))
 

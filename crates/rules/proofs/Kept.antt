@@ -1,8 +1,7 @@
 -- Each call leaves a workbook that can be made again from its rows.
-use Rattle.std.proofs.Common.{◌≡◌, ℕ, true, List, [], ◌∷◌, ◌++◌, map, length, take, drop, ℤ, pos, Some, None, Option, sym, refl, ap, ◌∙◌, subst, ap₂, arith}
+use Rattle.std.proofs.Common.{◌≡◌, ℕ, Bool, true, false, List, [], ◌∷◌, ◌++◌, map, length, drop, ℤ, pos, Some, None, Option, sym, refl, ap, ◌∙◌, subst, ap₂, arith}
 use Rattle.std.specs.List.{AllByRecursion}
-use Rattle.std.proofs.lemmas.List.{map_push, length-append, length-drop, drop-append-le, take-append-le}
-use Rattle.std.proofs.ByRecursion.{All-push, All-weaker}
+use Rattle.std.proofs.lemmas.List.{map_push, length-append}
 use Rattle.measure.specs.Measure.{Measure}
 use Rattle.pattern_file.specs.declared.names.CallName.{CallName}
 use Rattle.pattern_file.specs.declared.names.CallName.TheVariants as call
@@ -22,7 +21,7 @@ use Rattle.rules.specs.Calls.{Order, Call, make, clear_sheet, clear_tree, judge,
 use Rattle.rules.specs.Files.{order, or_minus_one, pair_numbers, type_order, constructor_order, place_order, node_order}
 use Rattle.rules.specs.RoundTrip.{Reached, start, next}
 use Rattle.rules.proofs.Chains.{Chain, Chain-push}
-use Rattle.rules.proofs.Lists.{Clear, Clear-from_none, none_from_Clear, Begins, Begins-itself, Begins-append, unfolded-push}
+use Rattle.rules.proofs.Lists.{Clear, Clear-from_none, none_from_Clear, Begins, Begins-itself, Begins-append, unfolded-push, All-push, All-weaker, take-drop-append}
 use Rattle.rules.proofs.WrittenBack.{type_back, constructor_back, place_back, leaf_back, fail_back, never_back, switch_back, test_back, ask_back}
 use Rattle.rules.proofs.Wider.{tables, TypeKnown, places_begin}
 use Rattle.rules.proofs.Sound.{Held, Sound, FieldsKnown, fields_known, whole_typed, places_typed, constructors_wider, places_wider, nodes_wider}
@@ -39,7 +38,7 @@ Begins-push (t ∷ ts) ps r =
     subst (Begins (places_from (t ∷ ts) ps)) (sym (unfolded-push place_from (whole ∷ []) ps r)) (Begins-append (places_from (t ∷ ts) ps) (place_from (places_from (t ∷ ts) ps) r ∷ []))
 
 -- the pairs of the switches stay where they are
-held_more : (qs new : List PairRow) (r : NodeRow) → Held qs r → Held (qs ++ new) r
+pub held_more : (qs new : List PairRow) (r : NodeRow) → Held qs r → Held (qs ++ new) r
 held_more qs new (Leaf a ps) h = tt
 held_more qs new Fail h = tt
 held_more qs new Never h = tt
@@ -51,10 +50,7 @@ same_order : (qs new : List PairRow) (r : NodeRow) → Held qs r → node_order 
 same_order qs new (Leaf a ps) h = refl
 same_order qs new Fail h = refl
 same_order qs new Never h = refl
-same_order qs new (Switch p o first count) h =
-    let l = length-drop first qs in
-    ap (λ x. order call.Switch (or_minus_one o ∷ pair_numbers x) (pos p))
-    (sym (ap (take count) (drop-append-le first qs new (omega arith)) ∙ take-append-le count (drop first qs) new (omega arith)))
+same_order qs new (Switch p o first count) h = ap (λ x. order call.Switch (or_minus_one o ∷ pair_numbers x) (pos p)) (sym (take-drop-append qs new first count h))
 same_order qs new (Test p t y n) h = refl
 same_order qs new (Ask g ps y n) h = refl
 
@@ -173,19 +169,23 @@ not_refused : (g : Option Refusal) (o : Outcome) (n : ℕ) → ((r : Refusal) �
 not_refused None o n h e = refl
 not_refused (Some r) o n h e = let k : o ≡ refused r = h r refl in let z : ◌≡◌ {A = ℕ} 0 1 = cc in let x : ⊥ = omega arith in absurd x
 
+-- what an accepted building call keeps, and clearing the sheet, clearing the tree and passes keep, any call keeps
+pub after_keeps : (P : Book → Type 0) (m : Measure) (b : Book) (c : Call) (o : Outcome) → ((r : Refusal) → refusal_of m b c ≡ Some r → o ≡ refused r)
+    → P b → ((x : CallName) (put : List ℤ) (own : ℤ) → Clear (building_grounds m b x put own) → P (made_by b x put own))
+    → P (without_sheet b) → P (without_tree b) → ((out : Bool) → P (with_pass b out)) → P (after b c o)
+after_keeps P m b (make x) o h old new sheet tree pass =
+    if_returned_lem P o (made b x) b (λ n e. new x.name x.put x.own (Clear-from_none (grounds m b (make x)) (not_refused (refusal_of m b (make x)) o n h e)).1) old
+after_keeps P m b clear_sheet o h old new sheet tree pass = if_returned_lem P o (without_sheet b) b (λ n e. sheet) old
+after_keeps P m b clear_tree o h old new sheet tree pass = if_returned_lem P o (without_tree b) b (λ n e. tree) old
+after_keeps P m b (judge w e n) o h old new sheet tree pass = if_alike_lem P o (with_pass b true) b (pass true) old
+after_keeps P m b (release n) o h old new sheet tree pass = pass false
+after_keeps P m b withdraw o h old new sheet tree pass = pass false
+
 tree_cleared : (m : Measure) (b : Book) → SoundBook m b → SoundBook m (without_tree b)
 tree_cleared m b s = record { types = s.types; constructors = s.constructors; places = refl; nodes = refl; pairs = tt }
 
-after_kept : (m : Measure) (b : Book) (c : Call) (o : Outcome) → SoundBook m b → ((r : Refusal) → refusal_of m b c ≡ Some r → o ≡ refused r) → SoundBook m (after b c o)
-after_kept m b (make x) o s h =
-    if_returned_lem (SoundBook m) o (made b x) b
-    (λ n e. made_kept m b x.name x.put x.own s (Clear-from_none (grounds m b (make x)) (not_refused (refusal_of m b (make x)) o n h e)).1) s
-after_kept m b clear_sheet o s h = if_returned_lem (SoundBook m) o (without_sheet b) b (λ n e. s) s
-after_kept m b clear_tree o s h = if_returned_lem (SoundBook m) o (without_tree b) b (λ n e. tree_cleared m b s) s
-after_kept m b (judge w e n) o s h = if_alike_lem (SoundBook m) o (with_pass b true) b s s
-after_kept m b (release n) o s h = s
-after_kept m b withdraw o s h = s
-
 pub Reached-sound : (m : Measure) (b : Book) → Reached m b → SoundBook m b
 Reached-sound m b start = record { types = refl; constructors = refl; places = refl; nodes = refl; pairs = tt }
-Reached-sound m b (next old c o r h) = after_kept m old c o (Reached-sound m old r) h
+Reached-sound m b (next old c o r h) =
+    let s = Reached-sound m old r in
+    after_keeps (SoundBook m) m old c o h s (λ x put own. made_kept m old x put own s) s (tree_cleared m old s) (λ out. s)

@@ -1,4 +1,5 @@
 -- The theorems on the rules.
+pub mod Facts
 pub mod RowRuns
 pub mod FirstAnswer
 pub mod SettledSides

@@ -1,18 +1,40 @@
 -- Lists that begin with another one, and what their numbers name; grounds of which none applies.
-use Rattle.std.proofs.Common.{◌≡◌, ℕ, zero, suc, ◌≤◌, Bool, true, false, cond, not, List, [], ◌∷◌, ◌++◌, map, length, ℤ, pos, negsuc, is_some, Some, None, Option, sym, refl, ap, ◌∙◌, subst, arith}
+use Rattle.std.proofs.Common.{◌≡◌, ℕ, zero, suc, ◌+◌, ◌<◌, ◌≤◌, Bool, true, false, cond, not, List, [], ◌∷◌, ◌++◌, map, length, get_or, take, drop, ℤ, pos, negsuc, is_some, Some, None, Option, sym, refl, ap, ◌∙◌, subst, arith}
 use Rattle.std.specs.List.{AllByRecursion, slice_get}
-use Rattle.std.proofs.lemmas.Bool.{true≢false, false≢true, or_parts, or_from}
+use Rattle.std.proofs.lemmas.Bool.{true≢false, or_parts, or_from}
 use Rattle.rules.specs.declared.refusal.Refusal.{Refusal}
-use Rattle.rules.specs.Tables.{unfolded, natural, naturals, named, numbers_of, up_to_four}
+use Rattle.rules.specs.Tables.{unfolded, natural, naturals, named}
 use Rattle.rules.specs.Grounds.{Ground, first_ground, unknown, any_unknown}
+use Rattle.std.proofs.lemmas.Option.{none-some, slice_get-get_or}
+use Rattle.std.proofs.lemmas.List.{length_push, length-drop, drop-append-le, take-append-le}
 
-pub none≢some : {A : Type 0} (x : A) → None ≡ Some x → ⊥
-none≢some x e = false≢true (ap is_some e)
+-- ── what holds of each of a list ──
 
-pub All-nth : {A : Type 0} (P : A → Type 0) (xs : List A) (n : ℕ) (x : A) → AllByRecursion P xs → slice_get xs n ≡ Some x → P x
-All-nth P [] n x a h = absurd (none≢some x h)
-All-nth P (y ∷ xs) zero x a h = let e : y ≡ x = cc in subst P e a.0
-All-nth P (y ∷ xs) (suc n) x a h = All-nth P xs n x a.1 h
+module _ {A : Type 0} (P : A → Type 0) where
+  pub All-slice_get : (xs : List A) (n : ℕ) (x : A) → AllByRecursion P xs → slice_get xs n ≡ Some x → P x
+  All-slice_get [] n x a h = absurd (none-some x h)
+  All-slice_get (y ∷ xs) zero x a h = let e : y ≡ x = cc in subst P e a.0
+  All-slice_get (y ∷ xs) (suc n) x a h = All-slice_get xs n x a.1 h
+
+  pub All-get_or : (xs : List A) (n : ℕ) (d : A) → n < length xs → AllByRecursion P xs → P (get_or xs n d)
+  All-get_or xs n d l a = All-slice_get xs n (get_or xs n d) a (slice_get-get_or xs n d l)
+
+  pub All-append : (xs ys : List A) → AllByRecursion P xs → AllByRecursion P ys → AllByRecursion P (xs ++ ys)
+  All-append [] ys a b = b
+  All-append (x ∷ xs) ys a b = (a.0, All-append xs ys a.1 b)
+
+  pub All-push : (xs : List A) (x : A) → AllByRecursion P xs → P x → AllByRecursion P (xs ++ x ∷ [])
+  All-push xs x a p = All-append xs (x ∷ []) a (p, tt)
+
+  pub All-weaker : (Q : A → Type 0) → ((x : A) → P x → Q x) → (xs : List A) → AllByRecursion P xs → AllByRecursion Q xs
+  All-weaker Q f [] a = tt
+  All-weaker Q f (x ∷ xs) a = (f x a.0, All-weaker Q f xs a.1)
+
+-- a part of a list stays where the list grows
+pub take-drop-append : {A : Type 0} (xs ys : List A) (first count : ℕ) → first + count ≤ length xs → take count (drop first (xs ++ ys)) ≡ take count (drop first xs)
+take-drop-append xs ys first count h =
+    let l = length-drop first xs in
+    ap (take count) (drop-append-le first xs ys (omega arith)) ∙ take-append-le count (drop first xs) ys (omega arith)
 
 -- ── grounds ──
 
@@ -22,7 +44,7 @@ Clear [] = Unit {0}
 Clear (g ∷ gs) = (g.applies ≡ false) × Clear gs
 
 clear_first : (applies : Bool) (r : Refusal) (o : Option Refusal) → cond applies (Some r) o ≡ None → (applies ≡ false) × (o ≡ None)
-clear_first true r o h = absurd (none≢some r (sym h))
+clear_first true r o h = absurd (none-some r (sym h))
 clear_first false r o h = (refl, h)
 
 pub Clear-from_none : (gs : List Ground) → first_ground gs ≡ None → Clear gs
@@ -48,11 +70,11 @@ module _ {A : Type 0} where
   Begins-append [] ys = tt
   Begins-append (x ∷ xs) ys = (refl, Begins-append xs ys)
 
-  pub nth_Begins : (xs ys : List A) (n : ℕ) (x : A) → Begins xs ys → slice_get xs n ≡ Some x → slice_get ys n ≡ Some x
-  nth_Begins [] ys n x b h = absurd (none≢some x h)
-  nth_Begins (z ∷ xs) [] n x b h = absurd b
-  nth_Begins (z ∷ xs) (y ∷ ys) zero x b h = ap Some (sym b.0) ∙ h
-  nth_Begins (z ∷ xs) (y ∷ ys) (suc n) x b h = nth_Begins xs ys n x b.1 h
+  pub slice_get-Begins : (xs ys : List A) (n : ℕ) (x : A) → Begins xs ys → slice_get xs n ≡ Some x → slice_get ys n ≡ Some x
+  slice_get-Begins [] ys n x b h = absurd (none-some x h)
+  slice_get-Begins (z ∷ xs) [] n x b h = absurd b
+  slice_get-Begins (z ∷ xs) (y ∷ ys) zero x b h = ap Some (sym b.0) ∙ h
+  slice_get-Begins (z ∷ xs) (y ∷ ys) (suc n) x b h = slice_get-Begins xs ys n x b.1 h
 
   -- ── what a signed number names ──
 
@@ -74,7 +96,7 @@ module _ {A : Type 0} where
       ap (λ x. x ∷ map pos (naturals zs)) (natural_known xs z p.0) ∙ ap (λ l. z ∷ l) (naturals_known xs zs p.1)
 
   pub named-Begins : (xs ys : List A) (z : ℤ) (x : A) → Begins xs ys → named xs z ≡ Some x → named ys z ≡ Some x
-  named-Begins xs ys (pos n) x b h = nth_Begins xs ys n x b h
+  named-Begins xs ys (pos n) x b h = slice_get-Begins xs ys n x b h
   named-Begins xs ys (negsuc n) x b h = h
 
   pub named_same : (xs ys : List A) (z : ℤ) → Begins xs ys → unknown xs z ≡ false → named ys z ≡ named xs z
@@ -95,20 +117,13 @@ pub unfolded-push : {R A : Type 0} (make : List A → R → A) (before : List A)
 unfolded-push make before [] r = refl
 unfolded-push make before (x ∷ rows) r = unfolded-push make (before ++ make before x ∷ []) rows r
 
+pub length-unfolded : {R A : Type 0} (make : List A → R → A) (before : List A) (rows : List R) → length (unfolded make before rows) ≡ length before + length rows
+length-unfolded make before [] = omega arith
+length-unfolded make before (r ∷ rows) =
+    let e = length_push before (make before r) in
+    let i = length-unfolded make (before ++ make before r ∷ []) rows in
+    omega arith
+
 pub length-naturals : (zs : List ℤ) → length (naturals zs) ≡ length zs
 length-naturals [] = refl
 length-naturals (z ∷ zs) = ap suc (length-naturals zs)
-
-pub numbers_of_four : (l : List ℕ) → length l ≤ 4 → numbers_of (up_to_four l) ≡ l
-numbers_of_four [] h = refl
-numbers_of_four (a ∷ []) h = refl
-numbers_of_four (a ∷ b ∷ []) h = refl
-numbers_of_four (a ∷ b ∷ c ∷ []) h = refl
-numbers_of_four (a ∷ b ∷ c ∷ d ∷ []) h = refl
-numbers_of_four (a ∷ b ∷ c ∷ d ∷ e ∷ l) h = let z : ⊥ = omega arith in absurd z
-
--- up to four known numbers come back from a row
-pub numbers_known : {A : Type 0} (xs : List A) (zs : List ℤ) → length zs ≤ 4 → any_unknown xs zs ≡ false → map pos (numbers_of (up_to_four (naturals zs))) ≡ zs
-numbers_known xs zs l h =
-    let e = length-naturals zs in
-    ap (map pos) (numbers_of_four (naturals zs) (omega arith)) ∙ naturals_known xs zs h

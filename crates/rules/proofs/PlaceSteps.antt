@@ -5,6 +5,7 @@ use Rattle.guards.specs.declared.step.Step.{Step}
 use Rattle.guards.specs.Questions.{Steps}
 use Rattle.rules.specs.Garments.{Value, built, measured, Place, whole, below, step_into, part_at, built_by, stands, steps_of, walk}
 use Rattle.rules.specs.PlaceLaws.{EachStepFits}
+use Rattle.std.proofs.Math.Bool.{and-true, and_assoc}
 
 -- ── the place that steps lead to ──
 
@@ -40,16 +41,8 @@ abbrev fitting : Option Value → Steps → Bool
 fitting o [] = true
 fitting o (s ∷ ss) = built_by s.constructor o && fitting (step_into s o) ss
 
-and_assoc : (a b c : Bool) → ((a && b) && c) ≡ (a && (b && c))
-and_assoc true b c = refl
-and_assoc false b c = refl
-
-and_true : (a : Bool) → (a && true) ≡ a
-and_true true = refl
-and_true false = refl
-
 fitting_more : (o : Option Value) (ss : Steps) (s : Step) → fitting o (ss ++ s ∷ []) ≡ (fitting o ss && built_by s.constructor (walk o ss))
-fitting_more o [] s = and_true (built_by s.constructor o)
+fitting_more o [] s = and-true (built_by s.constructor o)
 fitting_more o (x ∷ ss) s =
     ap (λ b. built_by x.constructor o && b) (fitting_more (step_into x o) ss s)
     ∙ sym (and_assoc (built_by x.constructor o) (fitting (step_into x o) ss) (built_by s.constructor (walk (step_into x o) ss)))

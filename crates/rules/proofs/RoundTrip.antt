@@ -1,7 +1,6 @@
 -- A release is read back, and bytes can say it.
-use Rattle.std.proofs.Common.{◌≡◌, ◌+◌, ◌<◌, ◌≤◌, false, List, [], ◌∷◌, ◌++◌, map, length, Ok, ap, ◌∙◌, arith, w64, SFits}
+use Rattle.std.proofs.Common.{◌≡◌, ◌+◌, ◌≤◌, false, List, [], ◌++◌, map, length, Ok, ap, ◌∙◌, arith, w64, SFits}
 use Rattle.std.specs.List.{AllByRecursion}
-use Rattle.std.proofs.ByRecursion.{All-append}
 use Rattle.std.proofs.lemmas.List.{length-append, length-map}
 use Rattle.measure.specs.Measure.{Measure, Lawful}
 use Rattle.pattern_file.specs.declared.entries.Entry.{Entry}
@@ -10,12 +9,14 @@ use Rattle.pattern_file.proofs.RoundTrip.{reads_back as encoded_back}
 use Rattle.rules.specs.Book.{Book, empty_book}
 use Rattle.rules.specs.Calls.{Order, without_sheet, with_pass}
 use Rattle.rules.specs.Files.{type_order, constructor_order, place_order, node_order, release_orders, release_entries, read_entries, read_contents}
-use Rattle.rules.specs.RoundTrip.{rows_written, read_back, FilesReadBack, EntriesFit, ReleasesReadBack}
+use Rattle.rules.specs.RoundTrip.{rows_written, read_back, FilesReadBack, EntriesFit, ReleasesReadBack, Reached}
 use Rattle.rules.proofs.Chains.{Chain, Chain-append, reads_Chain}
 use Rattle.rules.proofs.Wider.{tables}
 use Rattle.rules.proofs.Entries.{joined_append, types_within, constructors_within, places_within, nodes_within}
-use Rattle.rules.proofs.Fitting.{Fit, orders_entries, tables_fit}
+use Rattle.rules.proofs.Fitting.{Fit, orders_entries, tables_fit, EntryFits}
 use Rattle.rules.proofs.Kept.{SoundBook, Reached-sound}
+use Rattle.rules.proofs.Lists.{All-append, All-weaker}
+use Rattle.std.proofs.lemmas.List.Elements.{All-from_recursion}
 
 module _ (m : Measure) (b : Book) (s : SoundBook m b) where
   -- the whole release is carried out without a refusal
@@ -57,14 +58,13 @@ module _ (m : Measure) (b : Book) (s : SoundBook m b) where
 pub files_read_back : FilesReadBack
 files_read_back m b r = let s = Reached-sound m b r in (reads_back m b s, entries_few m b s)
 
-pub entries_fit : EntriesFit
-entries_fit m b lawful r = orders_entries (release_orders b) (orders_Fit m b (Reached-sound m b r) lawful)
+each_fits : (m : Measure) (b : Book) → Lawful m → Reached m b → AllByRecursion EntryFits (release_entries b)
+each_fits m b lawful r = orders_entries (release_orders b) (orders_Fit m b (Reached-sound m b r) lawful)
 
-numbers_fit : (es : List Entry) → AllByRecursion (λ (e : Entry). (e.tag < 16) × SFits w64 e.number) es → AllByRecursion (λ (e : Entry). SFits w64 e.number) es
-numbers_fit [] h = tt
-numbers_fit (e ∷ es) h = (h.0.1, numbers_fit es h.1)
+pub entries_fit : EntriesFit
+entries_fit m b lawful r = All-from_recursion EntryFits (release_entries b) (each_fits m b lawful r)
 
 pub releases_read_back : ReleasesReadBack
 releases_read_back m b lawful r =
     let f = files_read_back m b r in
-    ap (read_contents m empty_book) (encoded_back (release_entries b) f.1 (numbers_fit (release_entries b) (entries_fit m b lawful r))) ∙ f.0
+    ap (read_contents m empty_book) (encoded_back (release_entries b) f.1 (All-weaker EntryFits (λ (e : Entry). SFits w64 e.number) (λ e h. h.1) (release_entries b) (each_fits m b lawful r))) ∙ f.0

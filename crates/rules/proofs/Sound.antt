@@ -1,7 +1,6 @@
 -- Every workbook that calls make can be made again, table by table, from the rows that it holds.
 use Rattle.std.proofs.Common.{◌≡◌, ℕ, ◌+◌, ◌≤◌, false, ◌||◌, List, [], ◌∷◌, ◌++◌, map, length, drop, ℤ, pos, Some, None, sym, refl, ap, ◌∙◌, subst}
 use Rattle.std.specs.List.{AllByRecursion, slice_get}
-use Rattle.std.proofs.ByRecursion.{All-push}
 use Rattle.std.proofs.lemmas.Bool.{or_parts}
 use Rattle.measure.specs.Measure.{Measure}
 use Rattle.pattern_file.specs.declared.names.CallName.{CallName}
@@ -12,7 +11,6 @@ use Rattle.rules.specs.declared.rows.PlaceRow.{PlaceRow}
 use Rattle.rules.specs.declared.rows.PairRow.{PairRow}
 use Rattle.rules.specs.declared.rows.NodeRow.{NodeRow}
 use Rattle.rules.specs.declared.rows.NodeRow.TheVariants.{Leaf, Fail, Never, Switch, Test, Ask}
-use Rattle.rules.specs.Tables.{numbers_of}
 use Rattle.rules.specs.Book.{Book, empty_book, fields_in}
 use Rattle.rules.specs.Garments.{whole}
 use Rattle.rules.specs.Rows.{constructor_row, leaf_row, pair_rows, switch_row, test_row, ask_row}
@@ -21,7 +19,7 @@ use Rattle.rules.specs.Grounds.{unknown, any_unknown, building_grounds}
 use Rattle.rules.specs.Calls.{Order, make, refusal_of}
 use Rattle.rules.specs.Files.{order, type_order, constructor_order, place_order, node_order}
 use Rattle.rules.proofs.Chains.{Chain}
-use Rattle.rules.proofs.Lists.{Clear, Clear-from_none, none_from_Clear, Begins, All-nth, known, unfolded-push}
+use Rattle.rules.proofs.Lists.{Clear, Clear-from_none, none_from_Clear, Begins, All-slice_get, known, unfolded-push, All-push}
 use Rattle.rules.proofs.Wider.{tables, TypeKnown, constructor_wider, place_wider, leaf_wider, switch_wider, test_wider, ask_wider}
 
 -- the pairs of a switch stand in the table of pairs
@@ -48,7 +46,7 @@ abbrev pub Typed : List TypeRow → ℕ → Type 0
 Typed ts n = (row : TypeRow) × (slice_get ts n ≡ Some row)
 
 abbrev pub FieldsKnown : List TypeRow → ConstructorRow → Type 0
-FieldsKnown ts r = AllByRecursion (Typed ts) (numbers_of r.fields)
+FieldsKnown ts r = AllByRecursion (Typed ts) r.fields
 
 all_typed : (ts : List TypeRow) (ns : List ℕ) → any_unknown ts (map pos ns) ≡ false → AllByRecursion (Typed ts) ns
 all_typed ts [] h = tt
@@ -57,9 +55,9 @@ all_typed ts (n ∷ ns) h = let k = or_parts (unknown ts (pos n)) (any_unknown t
 pub fields_known : (m : Measure) (ts : List TypeRow) (cs rows : List ConstructorRow) (end : Book) → Chain m (tables ts cs [] [] []) (map constructor_order rows) end → AllByRecursion (FieldsKnown ts) rows
 fields_known m ts cs [] end c = tt
 fields_known m ts cs (r ∷ rows) end c =
-    let k = Clear-from_none (building_grounds m (tables ts cs [] [] []) call.Constructor (map pos (numbers_of r.fields)) (pos r.owner)) c.0 in (
-      all_typed ts (numbers_of r.fields) (or_parts (unknown ts (pos r.owner)) (any_unknown ts (map pos (numbers_of r.fields))) k.1.0).1,
-      fields_known m ts (cs ++ constructor_row (map pos (numbers_of r.fields)) (pos r.owner) ∷ []) rows end c.1,
+    let k = Clear-from_none (building_grounds m (tables ts cs [] [] []) call.Constructor (map pos r.fields) (pos r.owner)) c.0 in (
+      all_typed ts r.fields (or_parts (unknown ts (pos r.owner)) (any_unknown ts (map pos r.fields)) k.1.0).1,
+      fields_known m ts (cs ++ constructor_row (map pos r.fields) (pos r.owner) ∷ []) rows end c.1,
     )
 
 -- the field of a known constructor has a known type
@@ -68,8 +66,8 @@ field_typed : (ts : List TypeRow) (cs : List ConstructorRow) (c i : ℕ) → All
 field_typed ts cs c i fields h k =
     let r = known cs (pos c) h in
     let f = known (fields_in (slice_get cs c)) (pos i) k in
-    let e : slice_get (numbers_of r.0.fields) i ≡ Some f.0 = ap (λ o. slice_get (fields_in o) i) (sym r.1) ∙ f.1 in
-    let t = All-nth (Typed ts) (numbers_of r.0.fields) i f.0 (All-nth (FieldsKnown ts) cs c r.0 fields r.1) e in
+    let e : slice_get r.0.fields i ≡ Some f.0 = ap (λ o. slice_get (fields_in o) i) (sym r.1) ∙ f.1 in
+    let t = All-slice_get (Typed ts) r.0.fields i f.0 (All-slice_get (FieldsKnown ts) cs c r.0 fields r.1) e in
     (f.0, t.0, f.1, t.1)
 
 place_typed : (m : Measure) (ts : List TypeRow) (cs : List ConstructorRow) (ps : List PlaceRow) (r : PlaceRow) → AllByRecursion (FieldsKnown ts) cs

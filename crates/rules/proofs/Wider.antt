@@ -16,8 +16,9 @@ use Rattle.rules.specs.Garments.{Place, whole, below, place_type}
 use Rattle.rules.specs.Rows.{part, pair_rows, switch_row, test_row, ask_row}
 use Rattle.rules.specs.Trees.{places_from, nodes_of, depth}
 use Rattle.rules.specs.Grounds.{unknown, any_unknown, is_minus_one, is_code, differ, row_of, no_test_of, evens, odds, any_owner_differs, new_tree, step_count, building_grounds}
-use Rattle.rules.proofs.Lists.{none≢some, All-nth, Clear, Begins, Begins-itself, nth_Begins, known, named-Begins, named_same, unknown-Begins, any_unknown-Begins}
+use Rattle.rules.proofs.Lists.{All-slice_get, Clear, Begins, Begins-itself, slice_get-Begins, known, named-Begins, named_same, unknown-Begins, any_unknown-Begins}
 use Rattle.rules.proofs.Depths.{same_depth, same_depths}
+use Rattle.std.proofs.lemmas.Option.{none-some}
 
 -- the workbook that holds these rows: no sheet, and no pass is out
 abbrev pub tables : List TypeRow → List ConstructorRow → List PlaceRow → List NodeRow → List PairRow → Book
@@ -31,11 +32,11 @@ abbrev pub TypeKnown : List TypeRow → List ConstructorRow → Place → Type 0
 TypeKnown ts cs p = (t : ℕ) × (row : TypeRow) × (place_type (schema ts cs) p ≡ Some t) × (slice_get ts t ≡ Some row)
 
 pub all_named : {A : Type 0} (P : A → Type 0) (xs : List A) (z : ℤ) (x : A) → AllByRecursion P xs → named xs z ≡ Some x → P x
-all_named P xs (pos n) x a h = All-nth P xs n x a h
-all_named P xs (negsuc n) x a h = absurd (none≢some x h)
+all_named P xs (pos n) x a h = All-slice_get P xs n x a h
+all_named P xs (negsuc n) x a h = absurd (none-some x h)
 
 field_begins : (o u : Option ConstructorRow) (i t : ℕ) → ((r : ConstructorRow) → o ≡ Some r → u ≡ Some r) → slice_get (fields_in o) i ≡ Some t → slice_get (fields_in u) i ≡ Some t
-field_begins None u i t f h = absurd (none≢some t h)
+field_begins None u i t f h = absurd (none-some t h)
 field_begins (Some r) u i t f h = ap (λ o. slice_get (fields_in o) i) (f r refl) ∙ h
 
 -- where there is a place by a number, there is a type, and more types do not change the places
@@ -64,10 +65,7 @@ constructor_wider m ts us cs put own b c =
 module _ (m : Measure) (ts us : List TypeRow) (cs ds : List ConstructorRow) (types : Begins ts us) (constructors : Begins cs ds) where
   pub type_begins : (p : Place) (t : ℕ) → place_type (schema ts cs) p ≡ Some t → place_type (schema us ds) p ≡ Some t
   type_begins whole t h = h
-  type_begins (below p s) t h = field_begins (slice_get cs s.constructor) (slice_get ds s.constructor) s.field t (λ r e. nth_Begins cs ds s.constructor r constructors e) h
-
-  pub known_begins : (p : Place) → TypeKnown ts cs p → TypeKnown us ds p
-  known_begins p k = (k.0, k.1, type_begins p k.0 k.2, nth_Begins ts us k.0 k.1 types k.3)
+  type_begins (below p s) t h = field_begins (slice_get cs s.constructor) (slice_get ds s.constructor) s.field t (λ r e. slice_get-Begins cs ds s.constructor r constructors e) h
 
   module _ (ps qs : List Place) (places : Begins ps qs) (typed : AllByRecursion (TypeKnown ts cs) ps) where
     both_types : (z : ℤ) → unknown ps z ≡ false → (t : ℕ) × (row : TypeRow)
@@ -80,7 +78,7 @@ module _ (m : Measure) (ts us : List TypeRow) (cs ds : List ConstructorRow) (typ
           ap (λ o. and_then o (place_type (schema ts cs))) k.1 ∙ j.2,
           ap (λ o. and_then o (place_type (schema us ds))) (named-Begins ps qs z k.0 places k.1) ∙ type_begins k.0 j.0 j.2,
           j.3,
-          nth_Begins ts us j.0 j.1 types j.3,
+          slice_get-Begins ts us j.0 j.1 types j.3,
         )
 
     same_type : (z : ℤ) → unknown ps z ≡ false → and_then (named qs z) (place_type (schema us ds)) ≡ and_then (named ps z) (place_type (schema ts cs))

@@ -9,7 +9,6 @@ use Rattle.rules.specs.declared.rows.ClauseRow.{ClauseRow}
 use Rattle.rules.specs.declared.rows.PlaceRow.{PlaceRow}
 use Rattle.rules.specs.declared.rows.PairRow.{PairRow}
 use Rattle.rules.specs.declared.rows.NodeRow.{NodeRow}
-use Rattle.rules.specs.Tables.{numbers_of}
 
 pub record Book : Type 0 where
   pub types : List TypeRow
@@ -58,7 +57,7 @@ schema_of b = record { types = b.types; constructors = b.constructors }
 -- the field types of a constructor; none where there is no such constructor
 abbrev pub fields_in : Option ConstructorRow → List ℕ
 fields_in None = []
-fields_in (Some r) = numbers_of r.fields
+fields_in (Some r) = r.fields
 
 abbrev pub fields_of : Schema → ℕ → List ℕ
 fields_of s c = fields_in (slice_get s.constructors c)

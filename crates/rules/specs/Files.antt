@@ -18,7 +18,6 @@ use Rattle.rules.specs.declared.rows.PlaceRow.{PlaceRow}
 use Rattle.rules.specs.declared.rows.PairRow.{PairRow}
 use Rattle.rules.specs.declared.rows.NodeRow.{NodeRow}
 use Rattle.rules.specs.declared.rows.NodeRow.TheVariants.{Leaf, Fail, Never, Switch, Test, Ask}
-use Rattle.rules.specs.Tables.{numbers_of}
 use Rattle.rules.specs.Book.{Book}
 use Rattle.rules.specs.Calls.{Order, make, refusal_of, made}
 
@@ -37,7 +36,7 @@ type_order Choice = order call.«Type» [] (negsuc 0)
 type_order (Measured s) = order call.«Type» [] (pos s)
 
 abbrev pub constructor_order : ConstructorRow → Order
-constructor_order r = order call.Constructor (map pos (numbers_of r.fields)) (pos r.owner)
+constructor_order r = order call.Constructor (map pos r.fields) (pos r.owner)
 
 abbrev pub place_order : PlaceRow → Order
 place_order r = order call.Place (pos r.parent ∷ (pos r.step.constructor ∷ [])) (pos r.step.field)
@@ -47,12 +46,12 @@ pair_numbers [] = []
 pair_numbers (r ∷ rs) = pos r.constructor ∷ (pos r.node ∷ pair_numbers rs)
 
 abbrev pub node_order : List PairRow → NodeRow → Order
-node_order pairs (Leaf a ps) = order call.Leaf (map pos (numbers_of ps)) (pos a)
+node_order pairs (Leaf a ps) = order call.Leaf (map pos ps) (pos a)
 node_order pairs Fail = order call.Fail [] (pos 0)
 node_order pairs Never = order call.Never [] (pos 0)
 node_order pairs (Switch p o first count) = order call.Switch (or_minus_one o ∷ pair_numbers (take count (drop first pairs))) (pos p)
 node_order pairs (Test p t y n) = order call.Test (t ∷ (pos y ∷ (pos n ∷ []))) (pos p)
-node_order pairs (Ask g ps y n) = order call.Ask (pos y ∷ (pos n ∷ map pos (numbers_of ps))) (pos g)
+node_order pairs (Ask g ps y n) = order call.Ask (pos y ∷ (pos n ∷ map pos ps)) (pos g)
 
 -- types, constructors, places from 1, then nodes, in order
 abbrev pub release_orders : Book → List Order

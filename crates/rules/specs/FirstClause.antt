@@ -1,6 +1,6 @@
 -- Which clause answers: the first whose pattern matches and whose guard, if it has one, says yes.
 use Rattle.std.specs.Prelude.{◌≡◌, ℕ, true, List, ◌∷◌, ◌++◌, Some, None, Option}
-use Rattle.std.specs.List.{AllByRecursion}
+use Rattle.std.specs.List.{All}
 use Rattle.measure.specs.Measure.{Measure}
 use Rattle.guards.specs.Questions.{Rule, Steps}
 use Rattle.rules.specs.Garments.{Value, whole}
@@ -22,6 +22,6 @@ PassedOver m rule v k = (bs : List Binding) → Accepts m rule v k bs → ⊥
 pub record FirstClauseAnswers : Type 0 where
   -- the first clause that accepts answers its action and the places of its variables
   pub first : (m : Measure) (rule : Rule) (v : Value) (before : List Clause) (k : Clause) (after : List Clause) (bs : List Binding)
-      → AllByRecursion (PassedOver m rule v) before → Accepts m rule v k bs → sheet_answer m (before ++ k ∷ after) v rule ≡ acts k.action (list_of bs)
+      → All (PassedOver m rule v) before → Accepts m rule v k bs → sheet_answer m (before ++ k ∷ after) v rule ≡ acts k.action (list_of bs)
   -- where none accepts, the answer is none
-  pub no_clause : (m : Measure) (rule : Rule) (v : Value) (ks : List Clause) → AllByRecursion (PassedOver m rule v) ks → sheet_answer m ks v rule ≡ none
+  pub no_clause : (m : Measure) (rule : Rule) (v : Value) (ks : List Clause) → All (PassedOver m rule v) ks → sheet_answer m ks v rule ≡ none

@@ -1,5 +1,6 @@
 -- The subject's rules as definitions, in the order in which they build on each other; then the statements of the theorems.
 pub mod Refusals
+pub mod UpToFour
 pub mod Tables
 pub mod Book
 pub mod Garments

@@ -1,6 +1,6 @@
 -- Places are their steps: what stands at a place is found by walking, and what a match binds stands.
 use Rattle.std.specs.Prelude.{◌≡◌, true, List, ◌∷◌, ◌++◌, is_some, Some}
-use Rattle.std.specs.List.{AllByRecursion}
+use Rattle.std.specs.List.{All}
 use Rattle.measure.specs.Measure.{Measure}
 use Rattle.guards.specs.declared.step.Step.{Step}
 use Rattle.guards.specs.Questions.{Steps}
@@ -28,4 +28,4 @@ pub record PlacesAreSteps : Type 0 where
   -- a place that has a part stands
   pub part_stands : (v : Value) (p : Place) → is_some (part_at v p) ≡ true → stands v p ≡ true
   -- every place that a match binds stands in the value, and has a part
-  pub bound_Found : (m : Measure) (q : Pattern) (v : Value) (bs : List Binding) → matches m q whole v ≡ Some bs → AllByRecursion (λ k. Found v k.place) bs
+  pub bound_Found : (m : Measure) (q : Pattern) (v : Value) (bs : List Binding) → matches m q whole v ≡ Some bs → All (λ k. Found v k.place) bs

@@ -1,7 +1,7 @@
 -- Reading what a release writes into an empty workbook gives back the types, the constructors and the tree.
 use Rattle.std.specs.Prelude.{◌≡◌, ℕ, ◌+◌, ◌<◌, ◌≤◌, false, length, Some, Ok, FitsSigned}
 use Rattle.std.specs.Int.{w64}
-use Rattle.std.specs.List.{AllByRecursion}
+use Rattle.std.specs.List.{All}
 use Rattle.measure.specs.Measure.{Measure, Lawful}
 use Rattle.pattern_file.specs.declared.entries.Entry.{Entry}
 use Rattle.pattern_file.specs.Contents.{max_entries}
@@ -32,7 +32,7 @@ FilesReadBack =
 -- over a lawful kind, each entry has a tag of the file and a signed 64-bit number: bytes can say all that a release writes
 abbrev pub EntriesFit : Type 0
 EntriesFit =
-    (m : Measure) (b : Book) → Lawful m → Reached m b → AllByRecursion (λ (e : Entry). (e.tag < 16) × FitsSigned w64 e.number) (release_entries b)
+    (m : Measure) (b : Book) → Lawful m → Reached m b → All (λ (e : Entry). (e.tag < 16) × FitsSigned w64 e.number) (release_entries b)
 
 -- so the bytes of a release are read without a fault into an empty workbook over the same kind, and give back the same
 abbrev pub ReleasesReadBack : Type 0

@@ -5,7 +5,7 @@ use Rattle.guards.specs.Questions.{Steps, Question, Rule}
 use Rattle.rules.specs.declared.rows.PatternRow.{PatternRow}
 use Rattle.rules.specs.declared.rows.PatternRow.TheVariants.{Any, Bind, Build, Either, Gauge}
 use Rattle.rules.specs.declared.rows.ClauseRow.{ClauseRow}
-use Rattle.rules.specs.Tables.{unfolded, numbers_of}
+use Rattle.rules.specs.Tables.{unfolded}
 use Rattle.rules.specs.Book.{Book, Schema, owner_of}
 use Rattle.rules.specs.Garments.{Value, Values, built, measured, no_values, with_value, Place, whole, below, steps_of}
 
@@ -31,7 +31,7 @@ patterns_at before (n ∷ ns) = with_pattern (slice_index_or before n (any 0)) (
 abbrev pub pattern_from : List Pattern → PatternRow → Pattern
 pattern_from before (Any t) = any t
 pattern_from before (Bind v n) = bind v (slice_index_or before n (any 0))
-pattern_from before (Build c ps) = build c (patterns_at before (numbers_of ps))
+pattern_from before (Build c ps) = build c (patterns_at before ps)
 pattern_from before (Either l r) = either (slice_index_or before l (any 0)) (slice_index_or before r (any 0))
 pattern_from before (Gauge t w n) = gauge t w (slice_index_or before n (any 0))
 

@@ -1,7 +1,6 @@
 -- Tables whose rows name earlier rows by number, and the meaning of each row by the meanings before it.
-use Rattle.std.specs.Prelude.{ℕ, Bool, false, List, [], ◌∷◌, ◌++◌, length, take, ℤ, pos, negsuc, None, Option, nat_lt, slice_index}
+use Rattle.std.specs.Prelude.{ℕ, Bool, false, List, [], ◌∷◌, ◌++◌, ℤ, pos, negsuc, None, Option, nat_lt}
 use Rattle.std.specs.List.{slice_get}
-use Rattle.rules.specs.declared.rows.UpToFour.{UpToFour}
 
 -- the meanings of rows, after the meanings of those before them: each row is made of what stands before it
 abbrev pub unfolded : {R A : Type 0} → (List A → R → A) → List A → List R → List A
@@ -26,11 +25,3 @@ under n (negsuc k) = false
 abbrev pub named : {A : Type 0} → List A → ℤ → Option A
 named xs (pos n) = slice_get xs n
 named xs (negsuc n) = None
-
--- the numbers of a row that holds up to four
-abbrev pub numbers_of : UpToFour → List ℕ
-numbers_of p = take p.count p.numbers
-
--- up to four numbers as a row holds them
-abbrev pub up_to_four : List ℕ → UpToFour
-up_to_four l = record { count = length l; numbers = slice_index l 0 ∷ (slice_index l 1 ∷ (slice_index l 2 ∷ (slice_index l 3 ∷ []))) }

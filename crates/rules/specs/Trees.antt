@@ -7,7 +7,7 @@ use Rattle.rules.specs.declared.rows.PlaceRow.{PlaceRow}
 use Rattle.rules.specs.declared.rows.PairRow.{PairRow}
 use Rattle.rules.specs.declared.rows.NodeRow.{NodeRow}
 use Rattle.rules.specs.declared.rows.NodeRow.TheVariants.{Leaf, Fail, Never, Switch, Test, Ask}
-use Rattle.rules.specs.Tables.{unfolded, numbers_of}
+use Rattle.rules.specs.Tables.{unfolded}
 use Rattle.rules.specs.Book.{Book}
 use Rattle.rules.specs.Garments.{Value, built, measured, Place, whole, below, part_at, built_by, stands, all_stand, all_steps, last}
 use Rattle.rules.specs.Sheets.{Answer, acts, none, lost, question}
@@ -55,12 +55,12 @@ branches_from before [] other = other_from before other
 branches_from before (r ∷ rows) other = branch r.constructor (slice_index_or before r.node fail) (branches_from before rows other)
 
 abbrev pub node_from : List Place → List PairRow → List Tree → NodeRow → Tree
-node_from places pairs before (Leaf a ps) = leaf a (places_at places (numbers_of ps))
+node_from places pairs before (Leaf a ps) = leaf a (places_at places ps)
 node_from places pairs before Fail = fail
 node_from places pairs before Never = never
 node_from places pairs before (Switch p o first count) = switch (slice_index_or places p whole) (branches_from before (take count (drop first pairs)) o)
 node_from places pairs before (Test p t y n) = test (slice_index_or places p whole) t (slice_index_or before y fail) (slice_index_or before n fail)
-node_from places pairs before (Ask g ps y n) = ask g (places_at places (numbers_of ps)) (slice_index_or before y fail) (slice_index_or before n fail)
+node_from places pairs before (Ask g ps y n) = ask g (places_at places ps) (slice_index_or before y fail) (slice_index_or before n fail)
 
 -- the trees of a workbook's nodes by number
 abbrev pub nodes_of : Book → List Tree

@@ -3,15 +3,13 @@ ghost use Rattle.rules.specs.Examples.{Examples};
 ghost use Rattle.rules.specs.Typed.{GarmentsAreValues};
 
 // What a well-typed list of entries means.
-pub fn garments_are_values() -> u8
+#[tactic(auto, using(crate::proofs::WellTyped::garments_are_values))]
+pub fn garments_are_values()
     ensures { GarmentsAreValues }
-{
-    0
-}
+{}
 
 // The worked examples follow from the rules.
-pub fn examples_hold() -> u8
+#[tactic(auto, using(crate::proofs::ExamplesHold::examples_hold))]
+pub fn examples_hold()
     ensures { Examples }
-{
-    0
-}
+{}

@@ -8,9 +8,10 @@ pub mod places;
 pub mod refusal;
 pub mod round_trip;
 pub mod rows;
+pub mod up_to_four;
 
 pub use refusal::{ReadFault, Refusal};
 pub use rows::{
     ClauseRow, ConstructorRow, GarmentEntry, NodeRow, PairRow, PatternRow, PlaceRow, TypeRow,
-    UpToFour,
 };
+pub use up_to_four::UpToFour;

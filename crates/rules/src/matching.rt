@@ -1,25 +1,22 @@
-// Theorems on what patterns match: a caller learns the statement; the number returned says nothing.
+// Theorems on what patterns match: a caller of the function learns its statement.
 ghost use Rattle.rules.specs.FirstClause.{FirstClauseAnswers};
 ghost use Rattle.rules.specs.RowTable.{MatchingsAgree};
 ghost use Rattle.rules.specs.Settled.{NoNeverRetries};
 
 // The table of running rows of patterns and the direct recursion give the same.
-pub fn matchings_agree() -> u8
+#[tactic(auto, using(crate::proofs::RowRuns::matchings_agree))]
+pub fn matchings_agree()
     ensures { MatchingsAgree }
-{
-    0
-}
+{}
 
 // After a guard's no the other side of an alternation is not tried.
-pub fn no_never_retries() -> u8
+#[tactic(auto, using(crate::proofs::SettledSides::no_never_retries))]
+pub fn no_never_retries()
     ensures { NoNeverRetries }
-{
-    0
-}
+{}
 
 // The first clause that accepts a value answers it, and where none does the answer is none.
-pub fn first_clause_answers() -> u8
+#[tactic(auto, using(crate::proofs::FirstAnswer::first_clause_answers))]
+pub fn first_clause_answers()
     ensures { FirstClauseAnswers }
-{
-    0
-}
+{}

@@ -1,9 +1,8 @@
-// A theorem on places: a caller learns the statement; the number returned says nothing.
+// A theorem on places: a caller of the function learns its statement.
 ghost use Rattle.rules.specs.PlaceLaws.{PlacesAreSteps};
 
 // A place is its steps, and what a match binds stands in the value.
-pub fn places_are_steps() -> u8
+#[tactic(auto, using(crate::proofs::BoundPlaces::places_are_steps))]
+pub fn places_are_steps()
     ensures { PlacesAreSteps }
-{
-    0
-}
+{}

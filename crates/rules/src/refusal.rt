@@ -4,47 +4,30 @@ ghost use Rattle.rules.specs.Refusals.{refusal_number};
 
 #[derive(Clone, Copy, PartialEq, Eq, Debug)]
 pub enum Refusal {
-    PassOut,
-    ShortMemory,
-    WrongParts,
-    Unknown,
-    WrongType,
-    RepeatedConstructor,
-    BadVariable,
-    NoTest,
-    TooDeep,
-    BadFile,
-    BadGarment,
-    NoPass,
-    TableFull,
-    TooHeavy,
-    NoClause,
-    NoNode,
+    PassOut = 1,
+    ShortMemory = 2,
+    WrongParts = 3,
+    Unknown = 4,
+    WrongType = 5,
+    RepeatedConstructor = 6,
+    BadVariable = 7,
+    NoTest = 8,
+    TooDeep = 9,
+    BadFile = 10,
+    BadGarment = 11,
+    NoPass = 12,
+    TableFull = 13,
+    TooHeavy = 14,
+    NoClause = 15,
+    NoNode = 16,
 }
 
-impl Refusal {
-    // The number by which a refusal is reported.
-    pub fn number(self) -> u8
-        ensures { result ≡ refusal_number self }
-    {
-        match self {
-            Refusal::PassOut => 1,
-            Refusal::ShortMemory => 2,
-            Refusal::WrongParts => 3,
-            Refusal::Unknown => 4,
-            Refusal::WrongType => 5,
-            Refusal::RepeatedConstructor => 6,
-            Refusal::BadVariable => 7,
-            Refusal::NoTest => 8,
-            Refusal::TooDeep => 9,
-            Refusal::BadFile => 10,
-            Refusal::BadGarment => 11,
-            Refusal::NoPass => 12,
-            Refusal::TableFull => 13,
-            Refusal::TooHeavy => 14,
-            Refusal::NoClause => 15,
-            Refusal::NoNode => 16,
-        }
+// The number by which a refusal is reported.
+impl From<Refusal> for u8 {
+    ghost from_gives = { λ r n. n ≡ refusal_number r };
+
+    fn from(refusal: Refusal) -> u8 {
+        refusal as u8
     }
 }
 

@@ -1,29 +1,24 @@
-// The rows of a workbook's tables and the entries of a garment. Rows name earlier rows by their numbers.
+// The rows of a workbook's tables and the entries of a garment.
+// Rows name earlier rows by number: calls return these numbers, and tables of stated sizes ask for no memory after set-up.
+use crate::up_to_four::UpToFour;
 use guards::Step;
 
-// Up to four numbers: the first `count` of `numbers`; the others are 0.
-#[derive(Clone, Copy)]
-pub struct UpToFour {
-    pub count: u8,
-    pub numbers: [u16; 4],
-}
-
 // A type: a choice between constructors, or measured by atoms of a sort.
-#[derive(Clone, Copy)]
+#[derive(Clone, Copy, PartialEq, Eq, Debug)]
 pub enum TypeRow {
     Choice,
     Measured(u16),
 }
 
 // A constructor: the type that it builds, and the types of its fields.
-#[derive(Clone, Copy)]
+#[derive(Clone, Copy, PartialEq, Eq, Debug)]
 pub struct ConstructorRow {
     pub owner: u16,
     pub fields: UpToFour,
 }
 
 // A pattern, over earlier patterns.
-#[derive(Clone, Copy)]
+#[derive(Clone, Copy, PartialEq, Eq, Debug)]
 pub enum PatternRow {
     // everything of a type
     Any(u16),
@@ -38,7 +33,7 @@ pub enum PatternRow {
 }
 
 // A clause: a pattern, a guard if any, and an action.
-#[derive(Clone, Copy)]
+#[derive(Clone, Copy, PartialEq, Eq, Debug)]
 pub struct ClauseRow {
     pub pattern: u16,
     pub guard: Option<u16>,
@@ -46,21 +41,21 @@ pub struct ClauseRow {
 }
 
 // A place: one step below an earlier one. Place 0, the whole garment, has no row.
-#[derive(Clone, Copy)]
+#[derive(Clone, Copy, PartialEq, Eq)]
 pub struct PlaceRow {
     pub parent: u16,
     pub step: Step,
 }
 
 // A branch of a switch: the node for a constructor.
-#[derive(Clone, Copy)]
+#[derive(Clone, Copy, PartialEq, Eq, Debug)]
 pub struct PairRow {
     pub constructor: u16,
     pub node: u16,
 }
 
 // A node of a tree, over earlier nodes.
-#[derive(Clone, Copy)]
+#[derive(Clone, Copy, PartialEq, Eq, Debug)]
 pub enum NodeRow {
     Leaf {
         action: u16,
@@ -68,7 +63,7 @@ pub enum NodeRow {
     },
     Fail,
     Never,
-    // the pairs are `count` rows of the pair table from `first` on
+    // the pairs are `count` rows from `first` on of the one table that holds the pairs of all switches, at most 256
     Switch {
         place: u16,
         other: Option<u16>,
@@ -90,7 +85,8 @@ pub enum NodeRow {
 }
 
 // An entry of a garment, of type `ty`: built (mark 0, the head is a constructor) or measured (mark 1, the head is an atom).
-#[derive(Clone, Copy)]
+// Its numbers are plain, since users hand entries over: any that are wrong, unused ones too, must be sayable to be refused.
+#[derive(Clone, Copy, PartialEq, Eq, Debug)]
 pub struct GarmentEntry {
     pub ty: u32,
     pub mark: u8,

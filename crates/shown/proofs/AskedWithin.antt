@@ -1,8 +1,7 @@
 -- The questions of a sheet and of a tree are of at most four places of at most 16 steps.
 use Rattle.std.proofs.Common.{◌≡◌, ℕ, suc, ◌+◌, ◌≤◌, Bool, true, false, cond, eqb, List, [], ◌∷◌, ◌++◌, length, Some, None, Option, refl, ap, arith}
 use Rattle.std.proofs.lemmas.List.{length-append}
-use Rattle.std.proofs.ByRecursion.{All-append}
-use Rattle.std.specs.List.{AllByRecursion}
+use Rattle.std.specs.List.{AllByRecursion, All}
 use Rattle.measure.specs.Measure.{Measure}
 use Rattle.guards.specs.Questions.{Steps, Within}
 use Rattle.rules.specs.Book.{Schema}
@@ -12,8 +11,10 @@ use Rattle.rules.specs.Trees.{Tree, Branches, leaf, fail, never, switch, test, a
 use Rattle.theory.specs.Runs.{Look, is_built, passes, says, Run, done, look, pattern_run, patterns_run, guarded_run, sheet_run, stand_run, stand_all_run, tree_run, branches_run}
 use Rattle.theory.specs.Knowledge.{Knowledge, learn}
 use Rattle.theory.specs.Explore.{differs, explore}
-use Rattle.shown.specs.ShownAnswers.{AllWithin, LookWithin, AsksWithin, Short, TreeShort, BranchesShort}
+use Rattle.shown.specs.ShownAnswers.{AllWithin, LookWithin, AsksWithin, Short, TreeShort, BranchesShort, heard_list}
 use Rattle.shown.proofs.EachVerdict.{explored_all}
+use Rattle.rules.proofs.Lists.{All-append}
+use Rattle.std.proofs.lemmas.List.Elements.{All-head, All-tail, All-cons}
 
 -- ── sheets ──
 
@@ -70,11 +71,12 @@ guarded_asks : (o : Option ℕ) (x : ℕ) (r : Run) (bs : List Binding) → Asks
 guarded_asks None x r bs h b = tt
 guarded_asks (Some g) x r bs h b = (list_Within g bs b, (tt, h))
 
-pub sheet_asks : (ks : List Clause) → AllByRecursion (λ k. levels k.pattern ≤ 16) ks → AsksWithin (sheet_run ks)
+pub sheet_asks : (ks : List Clause) → All (λ k. levels k.pattern ≤ 16) ks → AsksWithin (sheet_run ks)
 sheet_asks [] h = tt
 sheet_asks (k ∷ ks) h =
-    let rest = sheet_asks ks h.1 in
-    pattern_asks k.pattern whole (guarded_run k.guard k.action (sheet_run ks)) (sheet_run ks) (omega (arith, h.0)) (λ bs b. guarded_asks k.guard k.action (sheet_run ks) bs rest b) rest
+    let rest = sheet_asks ks (All-tail (λ c. levels c.pattern ≤ 16) k ks h) in
+    let flat = All-head (λ c. levels c.pattern ≤ 16) k ks h in
+    pattern_asks k.pattern whole (guarded_run k.guard k.action (sheet_run ks)) (sheet_run ks) (omega (arith, flat)) (λ bs b. guarded_asks k.guard k.action (sheet_run ks) bs rest b) rest
 
 -- ── trees ──
 
@@ -88,7 +90,7 @@ stands_asks (p ∷ ps) r h = stand_asks p (stand_all_run ps r) (stands_asks ps r
 
 steps_within : (ps : List Place) → Short ps → (length (all_steps ps) ≡ length ps) × ShortSteps (all_steps ps)
 steps_within [] h = (refl, tt)
-steps_within (p ∷ ps) h = let r = steps_within ps h.1 in (ap suc r.0, (h.0, r.1))
+steps_within (p ∷ ps) h = let r = steps_within ps (All-tail (λ q. length (steps_of q) ≤ 16) p ps h) in (ap suc r.0, (All-head (λ q. length (steps_of q) ≤ 16) p ps h, r.1))
 
 mutual
   pub tree_asks : (t : Tree) → TreeShort t → AsksWithin (tree_run t)
@@ -111,7 +113,7 @@ mutual
 learns : (k : Knowledge) (l : Look) (b : Bool) → LookWithin l → AllWithin k → AllWithin (learn k l b)
 learns k (is_built p c) b h i = i
 learns k (passes p t) b h i = i
-learns k (says q) b h i = (h, i)
+learns k (says q) b h i = All-cons (λ a. Within 16 a.0) (q, b) (heard_list k) h i
 
 pub learnt_within : (m : Measure) (d : Schema) (k j : Knowledge) (first second : Run) (a b : Answer) → AsksWithin first → AsksWithin second → AllWithin k → explore m d k first second ≡ differs j a b → AllWithin j
 learnt_within m d = explored_all m d LookWithin AllWithin learns

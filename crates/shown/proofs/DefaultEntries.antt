@@ -11,9 +11,11 @@ use Rattle.rules.specs.Book.{Schema, fields_of, owner_of, is_choice}
 use Rattle.rules.specs.Garments.{is_some_number, children_fit, entry_fits, entries_fit, type_number_in}
 use Rattle.theory.specs.Inhabited.{first_below, makes, inhabited_by, inhabited_with, all_of, wanted, fresh, take_in, closing, makers, inhabited}
 use Rattle.shown.specs.ShownGarment.{built_entry, measured_entry, Stock, stocked_with, stock_measured, measured_stock, stock_made, stock_of, defaults, FourFields}
-use Rattle.shown.proofs.EntryLists.{number_is, is_choice_lem, nth_inside, Typed, typed_stays, Typed-new, fit_push}
+use Rattle.shown.proofs.EntryLists.{Typed, typed_stays, Typed-new, fit_push}
 use Rattle.shown.proofs.EntryTypes.{built_fits_lem, measured_fits_lem}
 use Rattle.theory.proofs.Below.{first_passes, count, count_most, count_less, count_here}
+use Rattle.std.proofs.lemmas.Option.{slice_get_within}
+use Rattle.rules.proofs.Facts.{test_from_number, choice_from_test}
 
 -- entries that fit, with a default of each type that P holds of
 pub record StockFits (m : Measure) (d : Schema) (P : ℕ → Type 0) (st : Stock) : Type 0 where
@@ -24,7 +26,7 @@ pub kids_fit : (es : List GarmentEntry) (passing : ℕ → Bool) (number : ℕ �
 kids_fit es passing number h [] e = refl
 kids_fit es passing number h (t ∷ ts) e =
     let two = and_parts (passing t) (all_of passing ts) e in
-    and_from (is_some_number (type_number_in (slice_get es (number t))) t) (children_fit es (map number ts) ts) (number_is (type_number_in (slice_get es (number t))) t (h t two.0).1) (kids_fit es passing number h ts two.1)
+    and_from (is_some_number (type_number_in (slice_get es (number t))) t) (children_fit es (map number ts) ts) (test_from_number (type_number_in (slice_get es (number t))) t (h t two.0).1) (kids_fit es passing number h ts two.1)
 
 module _ (m : Measure) (d : Schema) where
   -- one more default, of the type t
@@ -69,7 +71,7 @@ module _ (m : Measure) (d : Schema) where
     where
       go : (o : Option TypeRow) → slice_get d.types t ≡ o → inhabited_by m (makes d cs t) o ≡ true → t < length d.types
       go None row e = absurd (false≢true e)
-      go (Some r) row e = nth_inside d.types t r row
+      go (Some r) row e = slice_get_within d.types t r row
 
   -- ── made types ──
 
@@ -88,7 +90,7 @@ module _ (m : Measure) (d : Schema) where
       go None q w f = absurd (false≢true w)
       go (Some t) q w f =
           let two = and_parts (is_choice (slice_get d.types t)) (not (makes d cs t)) w in
-          (t, q, is_choice_lem (slice_get d.types t) two.0, not-true (makes d cs t) two.1, f)
+          (t, q, choice_from_test (slice_get d.types t) two.0, not-true (makes d cs t) two.1, f)
 
   taken_made : (n : ℕ) (cs : List ℕ) → ((bs : List ℕ) → Made bs → Made (closing m d n bs)) → Made cs → (o : Option ℕ) → first_below (length d.constructors) (fresh m d cs) ≡ o → Made (take_in cs o (λ c. closing m d n (c ∷ cs)))
   taken_made n cs k h None e = h
@@ -158,8 +160,8 @@ module _ (m : Measure) (d : Schema) where
         let e : GarmentEntry = built_entry t c (map st.default_of (fields_of d c)) in
         let before : inhabited_with m d cs t ≡ false = ap (inhabited_by m (makes d cs t)) h.0.2 ∙ h.0.3 in
         let now : inhabited_with m d (c ∷ cs) t ≡ true =
-        ap (inhabited_by m (makes d (c ∷ cs) t)) h.0.2 ∙ or_left (is_some_number (owner_of d c) t) (makes d cs t) (number_is (owner_of d c) t h.0.1) in
-        let grown = count_less (length d.types) (inhabited_with m d cs) (inhabited_with m d (c ∷ cs)) (after_it c cs) t (nth_inside d.types t Choice h.0.2) before now in
+        ap (inhabited_by m (makes d (c ∷ cs) t)) h.0.2 ∙ or_left (is_some_number (owner_of d c) t) (makes d cs t) (test_from_number (owner_of d c) t h.0.1) in
+        let grown = count_less (length d.types) (inhabited_with m d cs) (inhabited_with m d (c ∷ cs)) (after_it c cs) t (slice_get_within d.types t Choice h.0.2) before now in
         subst (λ o. length (stock_made d c o st).entries ≤ count (length d.types) (inhabited_with m d (c ∷ cs))) (sym h.0.1)
         (omega (arith, length-append st.entries (e ∷ []), stock_few cs h.1))
 

@@ -1,59 +1,30 @@
 -- One more entry at the end of a list of entries: what it means, whether it fits, and what stays.
-use Rattle.std.proofs.Common.{◌≡◌, ℕ, zero, suc, ◌+◌, ◌<◌, ◌≤◌, true, List, [], ◌∷◌, ◌++◌, length, get_or, take, drop, Some, None, Option, sym, refl, ap, ◌∙◌, subst, arith}
+use Rattle.std.proofs.Common.{◌≡◌, ℕ, zero, suc, ◌<◌, ◌≤◌, true, List, [], ◌∷◌, ◌++◌, length, get_or, take, drop, Some, sym, refl, ap, ◌∙◌, subst, arith}
 use Rattle.std.proofs.lemmas.List.{append_assoc, append-nil, length-append, get_or_append_left, get_or_at}
-use Rattle.std.proofs.lemmas.Bool.{false≢true, and_parts, and_from, eqb-true, eq-eqb}
+use Rattle.std.proofs.lemmas.Bool.{and_parts, and_from}
 use Rattle.std.specs.List.{slice_get}
 use Rattle.measure.specs.Measure.{Measure}
-use Rattle.rules.specs.declared.rows.TypeRow.{TypeRow}
-use Rattle.rules.specs.declared.rows.TypeRow.TheVariants.{Choice, Measured}
 use Rattle.rules.specs.declared.rows.GarmentEntry.{GarmentEntry}
-use Rattle.rules.specs.Tables.{unfolded}
-use Rattle.rules.specs.Book.{Schema, is_choice}
-use Rattle.rules.specs.Garments.{Value, built, no_values, entry_value, entry_values, last, or_nothing, garment_value, is_some_number, all_zero, type_number_in, entry_fits, entries_fit}
+use Rattle.rules.specs.Book.{Schema}
+use Rattle.rules.specs.Garments.{Value, built, no_values, entry_value, entry_values, last, or_nothing, garment_value, all_zero, type_number_in, entry_fits, entries_fit}
 use Rattle.shown.specs.ShownGarment.{four_of}
-use Rattle.theory.proofs.Facts.{none≢some}
-
-pub is_number : (o : Option ℕ) (n : ℕ) → is_some_number o n ≡ true → o ≡ Some n
-is_number None n e = absurd (false≢true e)
-is_number (Some k) n e = ap Some (eqb-true k n e)
-
-pub number_is : (o : Option ℕ) (n : ℕ) → o ≡ Some n → is_some_number o n ≡ true
-number_is o n e = ap (λ z. is_some_number z n) e ∙ eq-eqb n n refl
-
-pub is_choice_lem : (o : Option TypeRow) → is_choice o ≡ true → o ≡ Some Choice
-is_choice_lem None e = absurd (false≢true e)
-is_choice_lem (Some Choice) e = refl
-is_choice_lem (Some (Measured s)) e = absurd (false≢true e)
+use Rattle.rules.proofs.Lists.{unfolded-push, length-unfolded}
 
 -- ── rows one after another ──
-
-module _ {R A : Type 0} (make : List A → R → A) where
-  pub unfolded-push : (before : List A) (rs : List R) (r : R) → unfolded make before (rs ++ r ∷ []) ≡ unfolded make before rs ++ make (unfolded make before rs) r ∷ []
-  unfolded-push before [] r = refl
-  unfolded-push before (x ∷ rs) r = unfolded-push (before ++ make before x ∷ []) rs r
-
-  pub unfolded-length : (before : List A) (rs : List R) → length (unfolded make before rs) ≡ length before + length rs
-  unfolded-length before [] = omega arith
-  unfolded-length before (r ∷ rs) = omega (arith, unfolded-length (before ++ make before r ∷ []) rs, length-append before (make before r ∷ []))
 
 pub last-push : {A : Type 0} (xs : List A) (x : A) → last (xs ++ x ∷ []) ≡ Some x
 last-push [] x = refl
 last-push (y ∷ []) x = refl
 last-push (y ∷ (z ∷ xs)) x = last-push (z ∷ xs) x
 
-pub nth_left : {A : Type 0} (xs ys : List A) (n : ℕ) → n < length xs → slice_get (xs ++ ys) n ≡ slice_get xs n
-nth_left [] ys n h = absurd (omega arith)
-nth_left (x ∷ xs) ys zero h = refl
-nth_left (x ∷ xs) ys (suc n) h = nth_left xs ys n (omega arith)
+pub slice_get-append_left : {A : Type 0} (xs ys : List A) (n : ℕ) → n < length xs → slice_get (xs ++ ys) n ≡ slice_get xs n
+slice_get-append_left [] ys n h = absurd (omega arith)
+slice_get-append_left (x ∷ xs) ys zero h = refl
+slice_get-append_left (x ∷ xs) ys (suc n) h = slice_get-append_left xs ys n (omega arith)
 
-pub nth_new : {A : Type 0} (xs : List A) (x : A) → slice_get (xs ++ x ∷ []) (length xs) ≡ Some x
-nth_new [] x = refl
-nth_new (y ∷ xs) x = nth_new xs x
-
-pub nth_inside : {A : Type 0} (xs : List A) (n : ℕ) (x : A) → slice_get xs n ≡ Some x → n < length xs
-nth_inside [] n x e = absurd (none≢some x e)
-nth_inside (y ∷ xs) zero x e = omega arith
-nth_inside (y ∷ xs) (suc n) x e = omega (arith, nth_inside xs n x e)
+pub slice_get-push : {A : Type 0} (xs : List A) (x : A) → slice_get (xs ++ x ∷ []) (length xs) ≡ Some x
+slice_get-push [] x = refl
+slice_get-push (y ∷ xs) x = slice_get-push xs x
 
 -- ── four child numbers ──
 
@@ -80,10 +51,10 @@ abbrev pub Typed : List GarmentEntry → ℕ → ℕ → Type 0
 Typed es n t = (n < length es) × (type_number_in (slice_get es n) ≡ Some t)
 
 pub typed_stays : (es : List GarmentEntry) (e : GarmentEntry) (n t : ℕ) → Typed es n t → Typed (es ++ e ∷ []) n t
-typed_stays es e n t h = (omega (arith, h.0, length-append es (e ∷ [])), ap type_number_in (nth_left es (e ∷ []) n h.0) ∙ h.1)
+typed_stays es e n t h = (omega (arith, h.0, length-append es (e ∷ [])), ap type_number_in (slice_get-append_left es (e ∷ []) n h.0) ∙ h.1)
 
 pub Typed-new : (es : List GarmentEntry) (e : GarmentEntry) → Typed (es ++ e ∷ []) (length es) e.ty
-Typed-new es e = (omega (arith, length-append es (e ∷ [])), ap type_number_in (nth_new es e))
+Typed-new es e = (omega (arith, length-append es (e ∷ [])), ap type_number_in (slice_get-push es e))
 
 -- the value of an entry
 abbrev pub value_at : Schema → List GarmentEntry → ℕ → Value
@@ -92,12 +63,12 @@ value_at d es n = get_or (entry_values d es) n (built 0 no_values)
 pub value_stays : (d : Schema) (es : List GarmentEntry) (e : GarmentEntry) (n : ℕ) → n < length es → value_at d (es ++ e ∷ []) n ≡ value_at d es n
 value_stays d es e n h =
     ap (λ (l : List Value). get_or l n (built 0 no_values)) (unfolded-push (entry_value d) [] es e)
-    ∙ get_or_append_left (entry_values d es) (entry_value d (entry_values d es) e ∷ []) (built 0 no_values) n (omega (arith, unfolded-length (entry_value d) [] es))
+    ∙ get_or_append_left (entry_values d es) (entry_value d (entry_values d es) e ∷ []) (built 0 no_values) n (omega (arith, length-unfolded (entry_value d) [] es))
 
 pub value_new : (d : Schema) (es : List GarmentEntry) (e : GarmentEntry) → value_at d (es ++ e ∷ []) (length es) ≡ entry_value d (entry_values d es) e
 value_new d es e =
     ap (λ (l : List Value). get_or l (length es) (built 0 no_values)) (unfolded-push (entry_value d) [] es e)
-    ∙ get_or_at (entry_values d es) (entry_value d (entry_values d es) e) [] (built 0 no_values) (length es) (omega (arith, unfolded-length (entry_value d) [] es))
+    ∙ get_or_at (entry_values d es) (entry_value d (entry_values d es) e) [] (built 0 no_values) (length es) (omega (arith, length-unfolded (entry_value d) [] es))
 
 pub garment_new : (d : Schema) (es : List GarmentEntry) (e : GarmentEntry) → garment_value d (es ++ e ∷ []) ≡ value_at d (es ++ e ∷ []) (length es)
 garment_new d es e =

@@ -17,14 +17,17 @@ use Rattle.theory.specs.Inhabited.{all_of, inhabited}
 use Rattle.theory.specs.Knowledge.{Fact, Knowledge, Holds, same_place, head_agrees, head_agrees_all, candidate, none_below, only, reached, atom_agrees, atom_agrees_all, allowed, Askable, AllAskable, Heard, AllHeard, Good}
 use Rattle.shown.specs.Interned.{among, looks_among, known_among, Interned}
 use Rattle.shown.specs.ShownGarment.{Stock, ShownSoFar, defaults, shown_places, shown_garment, FourFields, Picks, Hears, GarmentFits, GarmentShown}
-use Rattle.shown.proofs.EntryLists.{number_is, nth_new, last-push, value_at, garment_new}
+use Rattle.shown.proofs.EntryLists.{slice_get-push, last-push, value_at, garment_new}
 use Rattle.shown.proofs.EntryTypes.{value_typed}
 use Rattle.shown.proofs.DefaultEntries.{defaults_fit, defaults_few}
 use Rattle.shown.proofs.PlaceEntries.{PlacesFit}
-use Rattle.shown.proofs.PlacesShown.{candidate_parts, owner_inside, first_shown, places_few}
-use Rattle.shown.proofs.SamePlaces.{Interned-none, Interned-grows}
-use Rattle.theory.proofs.Facts.{none≢some, some_same}
+use Rattle.shown.proofs.PlacesShown.{candidate_parts, first_shown, places_few}
+use Rattle.shown.proofs.SamePlaces.{Interned-none, Interned-grows, not_whole}
 use Rattle.theory.proofs.Parts.{place_same}
+use Rattle.std.proofs.lemmas.Option.{none-some, same_Some}
+use Rattle.rules.proofs.Facts.{test_from_number}
+use Rattle.theory.proofs.Candidates.{same_given}
+use Rattle.theory.proofs.Making.{owner_below}
 
 -- ── facts of a list ──
 
@@ -44,12 +47,8 @@ atoms_agree m p s a (g ∷ k) f e i =
     let two = and_parts (atom_agrees m p s a g.asked g.answer) (atom_agrees_all m p s a k) e in
     ⊎_elim (λ q. subst (λ (x : Fact). atom_agrees m p s a x.asked x.answer ≡ true) q two.0) (atoms_agree m p s a k f two.1) i
 
-gives_same : (b x : Bool) → gives b x ≡ true → x ≡ b
-gives_same true x e = e
-gives_same false x e = not-true x e
-
 here_gives : (p : Place) (b x : Bool) → (not (same_place p p) || gives b x) ≡ true → x ≡ b
-here_gives p b x e = gives_same b x (sym (ap (λ y. y || gives b x) (not_from_true (same_place p p) (place_same p))) ∙ e)
+here_gives p b x e = same_given b x (sym (ap (λ y. y || gives b x) (not_from_true (same_place p p) (place_same p))) ∙ e)
 
 -- ── the only candidate ──
 
@@ -62,12 +61,12 @@ none_below_lem (suc n) test e h l =
 only_one : (m : Measure) (d : Schema) (k : Knowledge) (p : Place) (t c e : ℕ) → place_type d p ≡ Some t → only m d k p c ≡ true → candidate m d k p e ≡ true → e ≡ c
 only_one m d k p t c e r o h =
     let rest = (and_parts (candidate m d k p c) (none_below (length d.constructors) (λ x. candidate m d k p x && not (eqb x c))) o).1 in
-    let never = none_below_lem (length d.constructors) (λ x. candidate m d k p x && not (eqb x c)) e rest (owner_inside d e t (candidate_parts m d k p t e r h).owner) in
+    let never = none_below_lem (length d.constructors) (λ x. candidate m d k p x && not (eqb x c)) e rest (owner_below d e t (candidate_parts m d k p t e r h).owner) in
     eqb-true e c (not-false (eqb e c) (sym (ap (λ z. z && not (eqb e c)) h) ∙ never))
 
 all_of_at : (passing : ℕ → Bool) (ts : List ℕ) (i t : ℕ) → all_of passing ts ≡ true → slice_get ts i ≡ Some t → passing t ≡ true
-all_of_at passing [] i t e h = absurd (none≢some t h)
-all_of_at passing (u ∷ ts) zero t e h = subst (λ x. passing x ≡ true) (some_same u t h) (and_parts (passing u) (all_of passing ts) e).0
+all_of_at passing [] i t e h = absurd (none-some t h)
+all_of_at passing (u ∷ ts) zero t e h = subst (λ x. passing x ≡ true) (same_Some u t h) (and_parts (passing u) (all_of passing ts) e).0
 all_of_at passing (u ∷ ts) (suc i) t e h = all_of_at passing ts i t (and_parts (passing u) (all_of passing ts) e).1 h
 
 some_is : (o : Option ℕ) → is_some o ≡ true → (t : ℕ) × (o ≡ Some t)
@@ -108,9 +107,6 @@ module _ (m : Measure) (d : Schema) (k : Knowledge) (ps : List Place) (pick : Pl
       let can = candidate_parts m d k p t.0 s.constructor t.1 (alone_candidate p s.constructor x.alone) in
       (x.inner, x.inner_is, all_of_at (inhabited m d) (fields_of d s.constructor) s.field x.inner can.filled x.inner_is)
 
-  not_whole : (p : Place) (s : Step) → below p s ≡ whole → ⊥
-  not_whole p s e = let z : ◌≡◌ {A = ℕ} 0 1 = cc in omega arith
-
   part_shown : (p : Place) → among (whole ∷ ps) p ≡ true → reached m d k p ≡ true → (n : ℕ) × (sh.entry_of p ≡ Some n) × (part_at v p ≡ Some (value_at d sh.entries n))
   part_shown whole a e = (n₀, whole_is, ap Some v_is)
   part_shown (below p s) a e =
@@ -134,9 +130,9 @@ module _ (m : Measure) (d : Schema) (k : Knowledge) (ps : List Place) (pick : Pl
   module _ (allowed_there : (p : Place) (t s : ℕ) → among (whole ∷ ps) p ≡ true → place_type d p ≡ Some t → inhabited m d t ≡ true → slice_get d.types t ≡ Some (Measured s) → allowed m k p s (pick p s) ≡ true)
       (rule : Rule) (hears : Hears k rule) where
     sort_row : (t s : ℕ) (o : Option TypeRow) → slice_get d.types t ≡ o → sort_in o ≡ Some s → slice_get d.types t ≡ Some (Measured s)
-    sort_row t s None q e = absurd (none≢some s e)
-    sort_row t s (Some Choice) q e = absurd (none≢some s e)
-    sort_row t s (Some (Measured r)) q e = q ∙ ap (λ x. Some (Measured x)) (some_same r s e)
+    sort_row t s None q e = absurd (none-some s e)
+    sort_row t s (Some Choice) q e = absurd (none-some s e)
+    sort_row t s (Some (Measured r)) q e = q ∙ ap (λ x. Some (Measured x)) (same_Some r s e)
 
     look_holds : (l : Look) (b : Bool) → In (record { asked = l; answer = b }) k → Askable m d k l → looks_among (whole ∷ ps) l ≡ true → Heard k l b → world_of m v rule l ≡ b
     look_holds (is_built p c) b i ask a h =
@@ -177,11 +173,11 @@ shown m d k ps pick usual sound lives good interned listed picks =
     let typed = ok.typed whole n new.numbered in
     let zeroth : type_number_in (slice_get sh.entries n) ≡ Some 0 = typed.2.1 ∙ sym typed.1 in
     let last_is : last sh.entries ≡ slice_get sh.entries n =
-    ap last new.all ∙ last-push new.front new.entry ∙ sym (nth_new new.front new.entry) ∙ ap (λ (l : List GarmentEntry). slice_get l n) (sym new.all) in
+    ap last new.all ∙ last-push new.front new.entry ∙ sym (slice_get-push new.front new.entry) ∙ ap (λ (l : List GarmentEntry). slice_get l n) (sym new.all) in
     let value_is : garment_value d sh.entries ≡ value_at d sh.entries n =
     ap (garment_value d) new.all ∙ garment_new d new.front new.entry ∙ ap (λ (l : List GarmentEntry). value_at d l n) (sym new.all) in
     record {
-      typed = and_from (is_some_number (type_number_in (last sh.entries)) 0) (entries_fit m d [] sh.entries) (number_is (type_number_in (last sh.entries)) 0 (ap type_number_in last_is ∙ zeroth)) ok.fit;
+      typed = and_from (is_some_number (type_number_in (last sh.entries)) 0) (entries_fit m d [] sh.entries) (test_from_number (type_number_in (last sh.entries)) 0 (ap type_number_in last_is ∙ zeroth)) ok.fit;
       fits = λ rule hears. record {
         typed = subst (λ (x : Value). OfType m d 0 x) (sym value_is) (value_typed m d sh.entries ok.fit n 0 zeroth);
         holds = all_hold m d k ps pick st.default_of lives interned sh ok (garment_value d sh.entries) n new.numbered value_is there rule hears k (λ f i. i) good.asked listed good.heard_all;

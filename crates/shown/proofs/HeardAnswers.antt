@@ -1,7 +1,7 @@
 -- The answers that are shown mean what was heard, and are few.
 use Rattle.std.proofs.Common.{◌≡◌, ◌+◌, ◌*◌, ◌≤◌, Bool, true, false, cond, List, [], ◌∷◌, length, Some, Option, unwrap_or, refl, ap, ◌∙◌, arith}
 use Rattle.std.proofs.lemmas.List.{length-append}
-use Rattle.std.specs.List.{AllByRecursion}
+use Rattle.std.specs.List.{AllByRecursion, All}
 use Rattle.measure.specs.Measure.{Measure}
 use Rattle.guards.specs.Questions.{Question, Rule, Steps, Within, same_question, written, written_steps, written_places}
 use Rattle.guards.specs.Hosts.{Asked}
@@ -13,6 +13,7 @@ use Rattle.theory.specs.Knowledge.{Knowledge, Holds, heard, hearing, Heard, AllH
 use Rattle.shown.specs.Budgets.{learnt, questions}
 use Rattle.shown.specs.ShownAnswers.{as_heard, heard_list, AllWithin, shown_answers, AnswersShown}
 use Rattle.shown.proofs.AskedWithin.{sheet_asks, tree_asks, learnt_within}
+use Rattle.std.proofs.lemmas.List.Elements.{All-head, All-tail, recursion_from_All}
 
 -- ── the rule ──
 
@@ -30,7 +31,7 @@ first_heard [] q = refl
 first_heard (f ∷ k) q = first_step f.asked f.answer q (heard_list k) (heard k q) (first_heard k q)
 
 means : (k : Knowledge) (q : Question) → AllWithin k → listed_rule (shown_answers k) q ≡ unwrap_or (heard k q) false
-means k q h = ap (λ (l : List Asked). first_answer l q) (list_back (heard_list k) h) ∙ first_heard k q
+means k q h = ap (λ (l : List Asked). first_answer l q) (list_back (heard_list k) (recursion_from_All (λ a. Within 16 a.0) (heard_list k) h)) ∙ first_heard k q
 
 -- ── what fits ──
 
@@ -60,9 +61,9 @@ places_length (p ∷ ps) h = omega (arith, h.0, length-append (written_steps p) 
 question_length : (q : Question) → Within 16 q → length (written q) ≤ 134
 question_length q h = omega (arith, h.0, places_length q.places h.1)
 
-answers_length : (l : List Asked) → AllByRecursion (λ a. Within 16 a.0) l → length (written_answers l) ≤ 135 * length l
+answers_length : (l : List Asked) → All (λ a. Within 16 a.0) l → length (written_answers l) ≤ 135 * length l
 answers_length [] h = omega arith
-answers_length (a ∷ l) h = omega (arith, length-append (written a.0) (bit a.1 ∷ written_answers l), question_length a.0 h.0, answers_length l h.1)
+answers_length (a ∷ l) h = omega (arith, length-append (written a.0) (bit a.1 ∷ written_answers l), question_length a.0 (All-head (λ a. Within 16 a.0) a l h), answers_length l (All-tail (λ a. Within 16 a.0) a l h))
 
 one_more : (l : Look) (b : Bool) (rest : List Asked) → length (as_heard l b rest) ≡ questions l + length rest
 one_more (is_built p c) b rest = omega arith

@@ -1,25 +1,17 @@
 -- Good knowledge leaves an atom to pick at every place, and every inhabited sort has an atom.
-use Rattle.std.proofs.Common.{◌≡◌, ℕ, zero, suc, Bool, true, false, List, ℤ, pos, Some, None, Option, sym, refl, ap, ◌∙◌, subst, ⊎_elim, w64, to_z}
-use Rattle.std.proofs.lemmas.Bool.{false≢true, both_ways, or_cases}
+use Rattle.std.proofs.Common.{◌≡◌, ℕ, Bool, true, false, List, ℤ, pos, Some, None, Option, sym, refl, ap, ◌∙◌, subst, ⊎_elim}
+use Rattle.std.proofs.lemmas.Bool.{both_ways}
 use Rattle.std.specs.List.{slice_get}
 use Rattle.measure.specs.Measure.{Measure}
 use Rattle.rules.specs.declared.rows.TypeRow.TheVariants.{Measured}
 use Rattle.rules.specs.Book.{Schema, sort_of, sort_in}
 use Rattle.rules.specs.Garments.{Place, place_type}
-use Rattle.theory.specs.Inhabited.{any_of, any_atom, makes, makers, inhabited_by, inhabited}
+use Rattle.theory.specs.Inhabited.{any_atom, makes, makers, inhabited_by, inhabited}
 use Rattle.theory.specs.Knowledge.{Knowledge, allowed, Good}
 use Rattle.shown.specs.ShownGarment.{Picks}
 use Rattle.shown.proofs.PlaceEntries.{choice_or_sort}
-use Rattle.theory.proofs.Facts.{none≢some, some_same}
-
-any_of_lem : (n : ℕ) (test : ℕ → Bool) → any_of n test ≡ true → (i : ℕ) × (test i ≡ true)
-unfolding any_of
-any_of_lem zero test e = absurd (false≢true e)
-any_of_lem (suc n) test e = ⊎_elim (λ h. (n, h)) (any_of_lem n test) (or_cases (test n) (any_of n test) e)
-
-any_atom_lem : (test : ℤ → Bool) → any_atom test ≡ true → (a : ℤ) × (test a ≡ true)
-unfolding any_atom
-any_atom_lem test e = let x = any_of_lem _ (λ n. test (to_z w64 n)) e in (to_z w64 x.0, x.1)
+use Rattle.std.proofs.lemmas.Option.{none-some, same_Some}
+use Rattle.theory.proofs.Atoms.{any_to}
 
 module _ (m : Measure) (d : Schema) (k : Knowledge) (good : Good m d k) where
   abbrev Chosen : Place → ℕ → Type 0
@@ -29,12 +21,12 @@ module _ (m : Measure) (d : Schema) (k : Knowledge) (good : Good m d k) where
   Chosen-typed p s t r = go (inhabited m d t) refl
     where
       go : (b : Bool) → inhabited m d t ≡ b → Chosen p s
-      go false l = (pos 0, λ u q h row. absurd (both_ways (inhabited m d t) l (subst (λ x. inhabited m d x ≡ true) (some_same u t (sym q ∙ r)) h)))
+      go false l = (pos 0, λ u q h row. absurd (both_ways (inhabited m d t) l (subst (λ x. inhabited m d x ≡ true) (same_Some u t (sym q ∙ r)) h)))
       go true l = ⊎_elim
-          (λ choice. (pos 0, λ u q h row. absurd (none≢some s (sym (ap sort_in choice) ∙ ap (sort_of d) (some_same t u (sym r ∙ q)) ∙ ap sort_in row))))
+          (λ choice. (pos 0, λ u q h row. absurd (none-some s (sym (ap sort_in choice) ∙ ap (sort_of d) (same_Some t u (sym r ∙ q)) ∙ ap sort_in row))))
           (λ x. let a = good.atoms p t x.0 r l x.1 in (
             a.0,
-            λ u q h row. subst (λ z. allowed m k p z a.0 ≡ true) (some_same x.0 s (sym (ap sort_in x.1) ∙ ap (sort_of d) (some_same t u (sym r ∙ q)) ∙ ap sort_in row)) a.1,
+            λ u q h row. subst (λ z. allowed m k p z a.0 ≡ true) (same_Some x.0 s (sym (ap sort_in x.1) ∙ ap (sort_of d) (same_Some t u (sym r ∙ q)) ∙ ap sort_in row)) a.1,
           ))
           (choice_or_sort m d t l)
 
@@ -42,14 +34,14 @@ module _ (m : Measure) (d : Schema) (k : Knowledge) (good : Good m d k) where
   chosen p s = go (place_type d p) refl
     where
       go : (o : Option ℕ) → place_type d p ≡ o → Chosen p s
-      go None r = (pos 0, λ t q. absurd (none≢some t (sym r ∙ q)))
+      go None r = (pos 0, λ t q. absurd (none-some t (sym r ∙ q)))
       go (Some t) r = Chosen-typed p s t r
 
   usually : (s : ℕ) → (a : ℤ) × ((t : ℕ) → inhabited m d t ≡ true → slice_get d.types t ≡ Some (Measured s) → m.atom s a ≡ true)
   usually s = go (any_atom (m.atom s)) refl
     where
       go : (b : Bool) → any_atom (m.atom s) ≡ b → (a : ℤ) × ((t : ℕ) → inhabited m d t ≡ true → slice_get d.types t ≡ Some (Measured s) → m.atom s a ≡ true)
-      go true e = let a = any_atom_lem (m.atom s) e in (a.0, λ t l row. a.1)
+      go true e = let a = any_to (m.atom s) e in (a.0, λ t l row. a.1)
       go false e = (pos 0, λ t l row. absurd (both_ways (any_atom (m.atom s)) e (sym (ap (inhabited_by m (makes d (makers m d) t)) row) ∙ l)))
 
   pub picks : (ps : List Place) → (pick : Place → ℕ → ℤ) × ((usual : ℕ → ℤ) × Picks m d k ps pick usual)

@@ -15,8 +15,8 @@ use Rattle.shown.specs.Interned.{among, parent_among}
 use Rattle.shown.specs.ShownGarment.{ShownSoFar, shown_with}
 use Rattle.shown.proofs.EntryLists.{Typed, typed_stays, Typed-new, value_at, value_stays, value_new, fit_push}
 use Rattle.shown.proofs.SamePlaces.{not_below_itself, parent_of}
-use Rattle.theory.proofs.Facts.{some_same}
 use Rattle.theory.proofs.Parts.{same_place_lem, place_same}
+use Rattle.std.proofs.lemmas.Option.{same_Some}
 
 -- the types have rows
 pub choice_or_sort : (m : Measure) (d : Schema) (t : ℕ) → inhabited m d t ≡ true → (slice_get d.types t ≡ Some Choice) ⊎ ((s : ℕ) × (slice_get d.types t ≡ Some (Measured s)))
@@ -52,7 +52,7 @@ module _ (m : Measure) (d : Schema) (k : Knowledge) (pick : Place → ℕ → �
   which sh p e q n h = go (same_place p q) refl h
     where
       go : (b : Bool) → same_place p q ≡ b → cond b (Some (length sh.entries)) (sh.entry_of q) ≡ Some n → ((p ≡ q) × (length sh.entries ≡ n)) ⊎ ((same_place p q ≡ false) × (sh.entry_of q ≡ Some n))
-      go true s h = inl (same_place_lem p q s, some_same (length sh.entries) n h)
+      go true s h = inl (same_place_lem p q s, same_Some (length sh.entries) n h)
       go false s h = inr (s, h)
 
   pub newest : (sh : ShownSoFar) (p : Place) (e : GarmentEntry) → (shown_with sh p e).entry_of p ≡ Some (length sh.entries)
@@ -125,13 +125,13 @@ module _ (m : Measure) (d : Schema) (k : Knowledge) (pick : Place → ℕ → �
       listed = λ q n h. ⊎_elim (λ a. or_left (same_place p q) (among ps q) (subst (λ (x : Place). same_place p x ≡ true) a.0 (place_same p))) (λ b. or_right (same_place p q) (among ps q) (ok.listed q n b.1)) (which sh p e q n h);
       typed = Typed-now;
       heads = λ q n u h r row. ⊎_elim
-          (λ a. let same : t ≡ u = some_same t u (sym type_is ∙ ap (place_type d) a.0 ∙ r) in
+          (λ a. let same : t ≡ u = same_Some t u (sym type_is ∙ ap (place_type d) a.0 ∙ r) in
           subst (λ (x : Place). HeadAt (value_at d more n) more entry_now x) a.0
           (subst (λ i. HeadAt (value_at d more i) more entry_now p) a.1 (own_head (head (ap (slice_get d.types) same ∙ row)))))
           (λ b. old_head q n b.1 (ok.heads q n u b.1 r row))
           (which sh p e q n h);
       atoms = λ q n u s h r row. ⊎_elim
-          (λ a. let same : t ≡ u = some_same t u (sym type_is ∙ ap (place_type d) a.0 ∙ r) in
+          (λ a. let same : t ≡ u = same_Some t u (sym type_is ∙ ap (place_type d) a.0 ∙ r) in
           subst (λ (x : Place). value_at d more n ≡ measured s (pick x s)) a.0
           (subst (λ i. value_at d more i ≡ measured s (pick p s)) a.1 (value_new d sh.entries e ∙ atom s (ap (slice_get d.types) same ∙ row))))
           (λ b. stays q n b.1 ∙ ok.atoms q n u s b.1 r row)

@@ -1,27 +1,27 @@
 -- Each listed place of an inhabited type gets an entry, in its turn.
-use Rattle.std.proofs.Common.{◌≡◌, ℕ, zero, suc, ◌+◌, ◌<◌, ◌≤◌, Bool, true, false, cond, not, ◌&&◌, List, [], ◌∷◌, ◌++◌, length, get_or, ℤ, Some, None, Option, unwrap_or, sym, refl, ap, ◌∙◌, subst, arith}
+use Rattle.std.proofs.Common.{◌≡◌, ℕ, zero, suc, ◌+◌, ◌≤◌, Bool, true, false, cond, not, ◌&&◌, List, [], ◌∷◌, ◌++◌, length, get_or, ℤ, Some, None, Option, unwrap_or, sym, refl, ap, ◌∙◌, subst, arith}
 use Rattle.std.proofs.lemmas.List.{length-append}
 use Rattle.std.proofs.lemmas.Bool.{false≢true, both_ways, not-true, and_parts, and_from, or_left, or_right}
 use Rattle.std.specs.List.{slice_get}
 use Rattle.measure.specs.Measure.{Measure}
 use Rattle.rules.specs.declared.rows.TypeRow.{TypeRow}
 use Rattle.rules.specs.declared.rows.TypeRow.TheVariants.{Choice, Measured}
-use Rattle.rules.specs.declared.rows.ConstructorRow.{ConstructorRow}
 use Rattle.rules.specs.declared.rows.GarmentEntry.{GarmentEntry}
-use Rattle.rules.specs.Book.{Schema, fields_of, owner_of, owner_in, is_choice}
+use Rattle.rules.specs.Book.{Schema, fields_of, owner_of, is_choice}
 use Rattle.rules.specs.Garments.{Value, built, measured, no_values, Place, place_type, field_at, children, entry_values, is_some_number, type_number_in, children_fit}
 use Rattle.rules.specs.Sheets.{field}
 use Rattle.theory.specs.Inhabited.{first_below, all_of, makes, inhabited_by, makers, inhabited}
 use Rattle.theory.specs.Knowledge.{Knowledge, same_place, candidate, builds_type, head_agrees_all, allowed, atom_agrees_all, Good}
 use Rattle.shown.specs.Interned.{among, parent_among, parents_first}
 use Rattle.shown.specs.ShownGarment.{built_entry, measured_entry, Stock, ShownSoFar, shown_with, field_entries, show_built, show_row, show_place, shown_places, FourFields}
-use Rattle.shown.proofs.EntryLists.{is_number, number_is, is_choice_lem, nth_inside}
 use Rattle.shown.proofs.EntryTypes.{built_fits_lem, measured_fits_lem, built_value, measured_value}
 use Rattle.theory.proofs.Below.{first_passes, first_none}
 use Rattle.shown.proofs.DefaultEntries.{StockFits}
 use Rattle.shown.proofs.PlaceEntries.{PlacesFit, newest, one_more, passed_over}
-use Rattle.theory.proofs.Facts.{none≢some, some_same}
 use Rattle.theory.proofs.Parts.{place_same}
+use Rattle.std.proofs.lemmas.Option.{none-some, same_Some}
+use Rattle.rules.proofs.Facts.{number_from_test, test_from_number, choice_from_test}
+use Rattle.theory.proofs.Making.{owner_below}
 
 -- ── candidates ──
 
@@ -36,20 +36,13 @@ candidate_parts m d k p t c r e =
     let two = and_parts (builds_type d c (place_type d p)) (all_of (inhabited m d) (fields_of d c) && head_agrees_all p c k) e in
     let three = and_parts (all_of (inhabited m d) (fields_of d c)) (head_agrees_all p c k) two.1 in
     let builds = and_parts (is_choice (slice_get d.types t)) (is_some_number (owner_of d c) t) (sym (ap (builds_type d c) r) ∙ two.0) in
-    record { row = is_choice_lem (slice_get d.types t) builds.0; owner = is_number (owner_of d c) t builds.1; filled = three.0; agrees = three.1 }
-
-pub owner_inside : (d : Schema) (c t : ℕ) → owner_of d c ≡ Some t → c < length d.constructors
-owner_inside d c t e = go (slice_get d.constructors c) refl e
-  where
-    go : (o : Option ConstructorRow) → slice_get d.constructors c ≡ o → owner_in o ≡ Some t → c < length d.constructors
-    go None q e = absurd (none≢some t e)
-    go (Some r) q e = nth_inside d.constructors c r q
+    record { row = choice_from_test (slice_get d.types t) builds.0; owner = number_from_test (owner_of d c) t builds.1; filled = three.0; agrees = three.1 }
 
 -- ── fields ──
 
 pub children_at : (vs : List Value) (ns : List ℕ) (i n : ℕ) → slice_get ns i ≡ Some n → field_at (children vs ns) i ≡ Some (get_or vs n (built 0 no_values))
-children_at vs [] i n e = absurd (none≢some n e)
-children_at vs (x ∷ ns) zero n e = ap (λ y. Some (get_or vs y (built 0 no_values))) (some_same x n e)
+children_at vs [] i n e = absurd (none-some n e)
+children_at vs (x ∷ ns) zero n e = ap (λ y. Some (get_or vs y (built 0 no_values))) (same_Some x n e)
 children_at vs (x ∷ ns) (suc i) n e = children_at vs ns i n e
 
 module _ (entry_of : Place → Option ℕ) (default_of : ℕ → ℕ) (p : Place) (c : ℕ) where
@@ -58,7 +51,7 @@ module _ (entry_of : Place → Option ℕ) (default_of : ℕ → ℕ) (p : Place
   fields_length (t ∷ ts) i = ap suc (fields_length ts (suc i))
 
   entry_at : (ts : List ℕ) (i j at u n : ℕ) → at ≡ i + j → slice_get ts j ≡ Some u → entry_of (field p c at) ≡ Some n → slice_get (field_entries entry_of default_of p c i ts) j ≡ Some n
-  entry_at [] i j at u n a e h = absurd (none≢some u e)
+  entry_at [] i j at u n a e h = absurd (none-some u e)
   entry_at (t ∷ ts) i zero at u n a e h =
       let here : i ≡ at = omega arith in
       ap (λ x. Some (unwrap_or (entry_of (field p c x)) (default_of t))) here ∙ ap (λ o. Some (unwrap_or o (default_of t))) h
@@ -76,11 +69,11 @@ module _ (m : Measure) (d : Schema) (k : Knowledge) (pick : Place → ℕ → �
       (go (sh.entry_of (field p c i)) refl two.0) (fields_fit ps sh ok p c ts (suc i) (λ j u at a e. h (suc j) u at (omega arith) e) two.1)
     where
       go : (o : Option ℕ) → sh.entry_of (field p c i) ≡ o → inhabited m d t ≡ true → is_some_number (type_number_in (slice_get sh.entries (unwrap_or o (default_of t)))) t ≡ true
-      go None q l = number_is (type_number_in (slice_get sh.entries (default_of t))) t (ok.stock t l).1
+      go None q l = test_from_number (type_number_in (slice_get sh.entries (default_of t))) t (ok.stock t l).1
       go (Some n) q l =
           let x = ok.typed (field p c i) n q in
-          let same : x.0 ≡ t = some_same x.0 t (sym x.1 ∙ h 0 t i (omega arith) refl) in
-          number_is (type_number_in (slice_get sh.entries n)) t (x.2.1 ∙ ap Some same)
+          let same : x.0 ≡ t = same_Some x.0 t (sym x.1 ∙ h 0 t i (omega arith) refl) in
+          test_from_number (type_number_in (slice_get sh.entries n)) t (x.2.1 ∙ ap Some same)
 
   -- the last entry is that of the place
   pub record Newest (p : Place) (sh : ShownSoFar) : Type 0 where
@@ -108,7 +101,7 @@ module _ (m : Measure) (d : Schema) (k : Knowledge) (pick : Place → ℕ → �
     built_shown : slice_get d.types t ≡ Some Choice → (o : Option ℕ) → first_below (length d.constructors) (candidate m d k p) ≡ o → PlaceShown ps p sh (show_built d default_of p t o sh)
     built_shown row None e =
         let some = good.heads p t r l row in
-        absurd (first_none (length d.constructors) (candidate m d k p) e some.0 (owner_inside d some.0 t (candidate_parts m d k p t some.0 r some.1).owner) some.1)
+        absurd (first_none (length d.constructors) (candidate m d k p) e some.0 (owner_below d some.0 t (candidate_parts m d k p t some.0 r some.1).owner) some.1)
     built_shown row (Some c) e =
         let can = (first_passes (length d.constructors) (candidate m d k p) c e).1 in
         let parts = candidate_parts m d k p t c r can in
@@ -144,12 +137,12 @@ module _ (m : Measure) (d : Schema) (k : Knowledge) (pick : Place → ℕ → �
   place_shown : (ps : List Place) (sh : ShownSoFar) (p : Place) → PlacesFit m d k pick default_of ps sh → parent_among ps p ≡ false
       → ((t s : ℕ) → place_type d p ≡ Some t → inhabited m d t ≡ true → slice_get d.types t ≡ Some (Measured s) → allowed m k p s (pick p s) ≡ true)
       → (o : Option ℕ) → place_type d p ≡ o → PlaceShown ps p sh (show_place m d k pick default_of p o sh)
-  place_shown ps sh p ok first a None r = nothing_shown ps sh p ok (λ t q l. none≢some t (sym r ∙ q))
+  place_shown ps sh p ok first a None r = nothing_shown ps sh p ok (λ t q l. none-some t (sym r ∙ q))
   place_shown ps sh p ok first a (Some t) r = go (inhabited m d t) refl
     where
       go : (b : Bool) → inhabited m d t ≡ b → PlaceShown ps p sh (cond b (show_row m d k pick default_of p t (slice_get d.types t) sh) sh)
       go true l = row_shown ps sh p t ok first r l (λ s row. a t s r l row) (slice_get d.types t) refl
-      go false l = nothing_shown ps sh p ok (λ u q h. both_ways (inhabited m d t) l (subst (λ x. inhabited m d x ≡ true) (sym (some_same t u (sym r ∙ q))) h))
+      go false l = nothing_shown ps sh p ok (λ u q h. both_ways (inhabited m d t) l (subst (λ x. inhabited m d x ≡ true) (sym (same_Some t u (sym r ∙ q))) h))
 
 -- ── all places ──
 
@@ -164,10 +157,10 @@ module _ (m : Measure) (d : Schema) (k : Knowledge) (pick : Place → ℕ → �
   places_fit [] e a = record {
     fit = stocked.fit;
     stock = stocked.has;
-    listed = λ q n h. absurd (none≢some n h);
-    typed = λ q n h. absurd (none≢some n h);
-    heads = λ q n t h. absurd (none≢some n h);
-    atoms = λ q n t s h. absurd (none≢some n h);
+    listed = λ q n h. absurd (none-some n h);
+    typed = λ q n h. absurd (none-some n h);
+    heads = λ q n t h. absurd (none-some n h);
+    atoms = λ q n t s h. absurd (none-some n h);
     complete = λ q t h. absurd (false≢true h);
   }
   places_fit (p ∷ ps) e a =

@@ -77,7 +77,7 @@ parent_push : (ps qs : List Place) (p : Place) → parent_among ps p ≡ true �
 parent_push ps qs whole e = absurd (false≢true e)
 parent_push ps qs (below p s) e = among-append_left ps qs p e
 
-not_whole : (p : Place) (s : Step) → below p s ≡ whole → ⊥
+pub not_whole : (p : Place) (s : Step) → below p s ≡ whole → ⊥
 not_whole p s e = let z : ◌≡◌ {A = ℕ} 0 1 = cc in omega arith
 
 pub Interned-grows : (ps : List Place) (q : Place) (s : Step) → Interned ps → among (whole ∷ ps) q ≡ true → among (whole ∷ ps) (below q s) ≡ false → Interned (ps ++ below q s ∷ [])

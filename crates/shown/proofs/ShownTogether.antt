@@ -21,6 +21,8 @@ use Rattle.shown.proofs.HeardAnswers.{answers_shown}
 use Rattle.shown.proofs.GarmentShown.{garment_shown}
 use Rattle.shown.proofs.Picking.{picks}
 use Rattle.theory.proofs.Parts.{same_place_lem}
+use Rattle.std.proofs.lemmas.List.Elements.{All-nil}
+use Rattle.guards.specs.Questions.{Within}
 
 both_more : (a b c e : Bool) → (a ≡ true → c ≡ true) → (b ≡ true → e ≡ true) → (a && b) ≡ true → (c && e) ≡ true
 both_more a b c e f g h = let two = and_parts a b h in and_from c e (f two.0) (g two.1)
@@ -68,7 +70,7 @@ shown m d ks t table k a b pick usual limits lives e good free =
     tree_more (whole ∷ table) (whole ∷ ps) (λ x i. all_has (whole ∷ ps) (whole ∷ table) x (and_from (among (whole ∷ ps) whole) (all_among (whole ∷ ps) table) refl places.table_listed) i) t limits.named in
     let known : known_among (whole ∷ ps) k ≡ true =
     budgets_hold.learnt_among (whole ∷ ps) m d [] k (tree_run t) (sheet_run ks) a b (budgets_hold.tree_runs_among ps t places.interned tree_listed) (budgets_hold.sheet_among ps ks places.sheet_listed) refl e in
-    let within : AllWithin k = answers_shown.learnt_within m d [] k (tree_run t) (sheet_run ks) a b (answers_shown.tree_asks t limits.short) (answers_shown.sheet_asks ks limits.flat) tt e in
+    let within : AllWithin k = answers_shown.learnt_within m d [] k (tree_run t) (sheet_run ks) a b (answers_shown.tree_asks t limits.short) (answers_shown.sheet_asks ks limits.flat) (All-nil (λ a. Within 16 a.0)) e in
     let garment : GarmentFits m d k ps (shown_garment m d k pick usual ps) = garment_shown.shown m d k ps pick usual limits.four_fields lives good places.interned known free in
     record {
       typed = garment.typed;

@@ -1,7 +1,7 @@
 -- The answers that are shown: the questions heard, with their answers, as numbers.
 use Rattle.std.specs.Prelude.{◌≡◌, ℕ, ◌*◌, ◌≤◌, Bool, false, List, [], ◌∷◌, length}
 use Rattle.std.specs.Option.{unwrap_or}
-use Rattle.std.specs.List.{AllByRecursion}
+use Rattle.std.specs.List.{All}
 use Rattle.measure.specs.Measure.{Measure}
 use Rattle.guards.specs.Questions.{Question, Rule, Within}
 use Rattle.guards.specs.Hosts.{Asked}
@@ -29,7 +29,7 @@ heard_list (f ∷ k) = as_heard f.asked f.answer (heard_list k)
 
 -- every question is of at most four places of at most 16 steps
 abbrev pub AllWithin : Knowledge → Type 0
-AllWithin k = AllByRecursion (λ a. Within 16 a.0) (heard_list k)
+AllWithin k = All (λ a. Within 16 a.0) (heard_list k)
 
 -- the numbers that show the answers
 abbrev pub shown_answers : Knowledge → List ℕ
@@ -47,7 +47,7 @@ AsksWithin r = EveryLook LookWithin r
 
 -- places of at most 16 steps
 abbrev pub Short : List Place → Type 0
-Short ps = AllByRecursion (λ p. length (steps_of p) ≤ 16) ps
+Short ps = All (λ p. length (steps_of p) ≤ 16) ps
 
 abbrev mutual
   -- every question of a tree is of at most four places of at most 16 steps
@@ -74,6 +74,6 @@ pub record AnswersShown : Type 0 where
   pub few : (k : Knowledge) → AllWithin k → length (shown_answers k) ≤ 135 * learnt questions k
   pub enough : (k : Knowledge) → AllWithin k → learnt questions k ≤ 64 → length (shown_answers k) ≤ shown_numbers
   -- and are within the limits where the sheet and the tree are
-  pub sheet_asks : (ks : List Clause) → AllByRecursion (λ k. levels k.pattern ≤ 16) ks → AsksWithin (sheet_run ks)
+  pub sheet_asks : (ks : List Clause) → All (λ k. levels k.pattern ≤ 16) ks → AsksWithin (sheet_run ks)
   pub tree_asks : (t : Tree) → TreeShort t → AsksWithin (tree_run t)
   pub learnt_within : (m : Measure) (d : Schema) (k j : Knowledge) (first second : Run) (a b : Answer) → AsksWithin first → AsksWithin second → AllWithin k → explore m d k first second ≡ differs j a b → AllWithin j

@@ -1,6 +1,6 @@
 -- What is shown where a sheet and a tree differ: entries and numbers that fit the memory lent, by the limits that a workbook keeps.
 use Rattle.std.specs.Prelude.{◌≡◌, ℕ, ◌≤◌, true, List, [], ◌∷◌, ◌++◌, length, ℤ}
-use Rattle.std.specs.List.{AllByRecursion}
+use Rattle.std.specs.List.{All}
 use Rattle.measure.specs.Measure.{Measure}
 use Rattle.guards.specs.Listed.{listed_rule}
 use Rattle.rules.specs.declared.rows.GarmentEntry.{GarmentEntry}
@@ -23,7 +23,7 @@ pub record WithinLimits (d : Schema) (ks : List Clause) (t : Tree) (table : List
   pub few_types : length d.types ≤ most_types
   pub four_fields : FourFields d
   pub limited : Limited ks t
-  pub flat : AllByRecursion (λ k. levels k.pattern ≤ 16) ks
+  pub flat : All (λ k. levels k.pattern ≤ 16) ks
   pub short : TreeShort t
   pub few_places : length table ≤ 63
   pub nested : each_below (whole ∷ []) table ≡ true

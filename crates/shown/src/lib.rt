@@ -1,5 +1,5 @@
 // What a verdict shows: a garment and answers within the memory that is lent, and the verdict in the terms of the rules.
-// Each function names a theorem in its contract; the number that it returns says nothing.
+// Each function has a theorem for its contract, which its caller learns.
 #![tactic(auto)]
 
 pub mod judging;

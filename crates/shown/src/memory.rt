@@ -5,29 +5,25 @@ ghost use Rattle.shown.specs.ShownFits.{ShownFitsMemory};
 ghost use Rattle.shown.specs.ShownGarment.{GarmentShown};
 
 // how much is learnt on one way through a sheet and a tree, and the work memory that holds it
-pub fn budgets_hold() -> u8
+#[tactic(auto, using(crate::proofs::LearntOnPath::budgets_hold))]
+pub fn budgets_hold()
     ensures { BudgetsHold }
-{
-    0
-}
+{}
 
 // the answers heard, as numbers: the rule that they list, and how many they are
-pub fn answers_shown() -> u8
+#[tactic(auto, using(crate::proofs::HeardAnswers::answers_shown))]
+pub fn answers_shown()
     ensures { AnswersShown }
-{
-    0
-}
+{}
 
 // the garment of some knowledge, as entries: well typed, fitting, and few
-pub fn garment_shown() -> u8
+#[tactic(auto, using(crate::proofs::GarmentShown::garment_shown))]
+pub fn garment_shown()
     ensures { GarmentShown }
-{
-    0
-}
+{}
 
 // what is shown where a sheet and a tree within their limits differ fits the memory lent
-pub fn shown_fits_memory() -> u8
+#[tactic(auto, using(crate::proofs::ShownTogether::shown_fits_memory))]
+pub fn shown_fits_memory()
     ensures { ShownFitsMemory }
-{
-    0
-}
+{}

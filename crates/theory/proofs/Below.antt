@@ -1,22 +1,22 @@
 -- Numbers below a bound: the first that passes a test, whether none does, and how many do.
 use Rattle.std.proofs.Common.{◌≡◌, ℕ, zero, suc, ◌+◌, ◌<◌, ◌≤◌, Bool, true, false, not, ◌&&◌, Some, None, Option, sym, refl, ap, ◌∙◌, subst, not-suc-le-zero, arith}
-use native.Mathlib.Decide.{ℕ_discrete}
+use Rattle.std.proofs.Math.Decide.{ℕ_discrete}
 use Rattle.std.proofs.lemmas.Bool.{true≢false, false≢true, and_parts, and_from, not-true, not_from_false}
 use Rattle.theory.specs.Inhabited.{or_also, first_below}
 use Rattle.theory.specs.Knowledge.{none_below}
-use Rattle.theory.proofs.Facts.{none≢some, some_same}
+use Rattle.std.proofs.lemmas.Option.{none-some, same_Some}
 
 -- ── the first ──
 
 pub first_passes : (n : ℕ) (test : ℕ → Bool) (c : ℕ) → first_below n test ≡ Some c → (c < n) × (test c ≡ true)
-first_passes zero test c e = absurd (none≢some c e)
+first_passes zero test c e = absurd (none-some c e)
 first_passes (suc n) test c e = go (first_below n test) (test n) refl refl e (first_passes n test c)
   where
     go : (o : Option ℕ) (b : Bool) → first_below n test ≡ o → test n ≡ b → or_also o b n ≡ Some c
         → (first_below n test ≡ Some c → (c < n) × (test c ≡ true)) → (c < suc n) × (test c ≡ true)
     go (Some k) b eo eb h rest = let r = rest (eo ∙ h) in let l : c < n = r.0 in (omega arith, r.1)
-    go None true eo eb h rest = let same : n ≡ c = some_same n c h in (omega arith, subst (λ x. test x ≡ true) same eb)
-    go None false eo eb h rest = absurd (none≢some c h)
+    go None true eo eb h rest = let same : n ≡ c = same_Some n c h in (omega arith, subst (λ x. test x ≡ true) same eb)
+    go None false eo eb h rest = absurd (none-some c h)
 
 pub first_none : (n : ℕ) (test : ℕ → Bool) → first_below n test ≡ None → (c : ℕ) → c < n → test c ≡ true → ⊥
 first_none zero test e c l h = not-suc-le-zero l
@@ -24,8 +24,8 @@ first_none (suc n) test e c l h = go (first_below n test) (test n) refl refl e (
   where
     go : (o : Option ℕ) (b : Bool) → first_below n test ≡ o → test n ≡ b → or_also o b n ≡ None
         → (first_below n test ≡ None → c < n → ⊥) → ⊥
-    go (Some k) b eo eb f rest = none≢some k (sym f)
-    go None true eo eb f rest = none≢some n (sym f)
+    go (Some k) b eo eb f rest = none-some k (sym f)
+    go None true eo eb f rest = none-some n (sym f)
     go None false eo eb f rest = step (ℕ_discrete c n)
       where
         step : Dec (c ≡ n) → ⊥

@@ -1,6 +1,6 @@
 -- Exploring compares its ends in order, and an open look has those of two branches.
 use Rattle.std.proofs.Common.{◌≡◌, ℕ, suc, ◌+◌, ◌^◌, ◌≤◌, max, Bool, true, false, cond, List, [], ◌∷◌, ◌++◌, length, Some, None, Option, sym, refl, ap, ◌∙◌, subst, arith, pow_mono}
-use native.Mathlib.Nat.{pow-succ'}
+use Rattle.std.proofs.Math.Nat.{pow-succ'}
 use Rattle.std.proofs.lemmas.List.{length-append}
 use Rattle.measure.specs.Measure.{Measure}
 use Rattle.rules.specs.Book.{Schema}

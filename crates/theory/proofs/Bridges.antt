@@ -1,6 +1,6 @@
 -- The laws by which a recursion follows the run of a sheet or a tree, proved for each form.
 use Rattle.std.proofs.Common.{◌≡◌, ℕ, suc, Bool, true, false, cond, List, ◌∷◌, ◌++◌, ℤ, Some, None, Option, refl, ap, ◌∙◌, true≢false}
-use mathlib.Core.Bool.{false≢true}
+use Rattle.std.proofs.lemmas.Bool.{false≢true}
 use Rattle.measure.specs.Measure.{gives}
 use Rattle.rules.specs.Garments.{Place, whole, all_steps}
 use Rattle.rules.specs.Sheets.{Pattern, Patterns, bind, build, either, gauge, with_pattern, Binding, field, Clause, list_of, acts, lost, question}

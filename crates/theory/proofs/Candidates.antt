@@ -11,8 +11,9 @@ use Rattle.rules.specs.Garments.{Place, place_type, is_some_number}
 use Rattle.theory.specs.Inhabited.{all_of, inhabited}
 use Rattle.theory.specs.Knowledge.{Knowledge, head_agrees_all, builds_type, candidate, none_below, only}
 use Rattle.theory.proofs.Below.{none_passes, none_from, some_passes}
-use Rattle.theory.proofs.Making.{choice_row, number_in, in_number, owner_below}
-use Rattle.theory.proofs.Facts.{none≢some, some_same}
+use Rattle.theory.proofs.Making.{owner_below}
+use Rattle.std.proofs.lemmas.Option.{none-some, same_Some}
+use Rattle.rules.proofs.Facts.{choice_from_test, number_from_test, test_from_number}
 
 -- ── answers that agree ──
 
@@ -35,9 +36,9 @@ pub sort_at : (d : Schema) (p : Place) (t s : ℕ) → place_type d p ≡ Some t
 sort_at d p t s e row = ap (λ o. and_then o (sort_of d)) e ∙ ap sort_in row
 
 pub row_of_sort : (o : Option TypeRow) (s : ℕ) → sort_in o ≡ Some s → o ≡ Some (Measured s)
-row_of_sort None s e = absurd (none≢some s e)
-row_of_sort (Some Choice) s e = absurd (none≢some s e)
-row_of_sort (Some (Measured r)) s e = ap (λ x. Some (Measured x)) (some_same r s e)
+row_of_sort None s e = absurd (none-some s e)
+row_of_sort (Some Choice) s e = absurd (none-some s e)
+row_of_sort (Some (Measured r)) s e = ap (λ x. Some (Measured x)) (same_Some r s e)
 
 module _ (m : Measure) (d : Schema) (k : Knowledge) (p : Place) where
   pub record Candidate (c : ℕ) : Type 0 where
@@ -58,13 +59,13 @@ module _ (m : Measure) (d : Schema) (k : Knowledge) (p : Place) where
       go None e b f a = absurd (false≢true b)
       go (Some t) e b f a =
           let two = and_parts (is_choice (slice_get d.types t)) (is_some_number (owner_of d c) t) b in
-          record { type = t; placed = e; choice = choice_row (slice_get d.types t) two.0; owner = number_in (owner_of d c) t two.1; fields = f; agrees = a }
+          record { type = t; placed = e; choice = choice_from_test (slice_get d.types t) two.0; owner = number_from_test (owner_of d c) t two.1; fields = f; agrees = a }
 
   pub candidate_from : (c : ℕ) → Candidate c → candidate m d k p c ≡ true
   candidate_from c r =
       and_from (builds_type d c (place_type d p)) (all_of (inhabited m d) (fields_of d c) && head_agrees_all p c k)
       (ap (builds_type d c) r.placed
-      ∙ and_from (is_choice (slice_get d.types r.type)) (is_some_number (owner_of d c) r.type) (ap is_choice r.choice) (in_number (owner_of d c) r.type r.owner))
+      ∙ and_from (is_choice (slice_get d.types r.type)) (is_some_number (owner_of d c) r.type) (ap is_choice r.choice) (test_from_number (owner_of d c) r.type r.owner))
       (and_from (all_of (inhabited m d) (fields_of d c)) (head_agrees_all p c k) r.fields r.agrees)
 
   -- ── the only candidate ──

@@ -11,8 +11,8 @@ use Rattle.theory.specs.Knowledge.{Knowledge, learn, same_place, head_agrees, he
 use Rattle.theory.specs.Explore.{More, Proper}
 use Rattle.theory.specs.Quick.{skipping, Sound}
 use Rattle.theory.specs.Verdicts.{Knowing}
-use Rattle.theory.proofs.Reaching.{More-all, More-on, Askable-more}
 use Rattle.theory.proofs.Relevance.{only_same}
+use Rattle.theory.proofs.Kept.{More-self, More-More, Askable-kept}
 
 module _ (m : Measure) (d : Schema) where
   abbrev pub Careful : Knowledge → Run → Type 0
@@ -29,16 +29,16 @@ module _ (m : Measure) (d : Schema) where
   pub Careful-More : (k j : Knowledge) → More m d k j → (r : Run) → Careful k r → Careful j r
   Careful-More k j more (done a) p = tt
   Careful-More k j more (look l y n) p =
-      (Askable-more m d k j more l p.0, (λ i ok on e. p.1.0 i ok (More-on m d k j i more on) e, λ i ok on e. p.1.1 i ok (More-on m d k j i more on) e))
+      (Askable-kept m d k j l more p.0, (λ i ok on e. p.1.0 i ok (More-More m d k j i more on) e, λ i ok on e. p.1.1 i ok (More-More m d k j i more on) e))
 
 -- ── a look of a careful run, told or learnt, leads to a careful branch ──
 
 module _ (m : Measure) (d : Schema) (know : Knowing m d) (k : Knowledge) (l : Look) (y n : Run) (proper : Careful m d k (look l y n)) (ok : Good m d k) where
   pub Careful-yes : tells m d k l ≡ Some true → Careful m d k y
-  Careful-yes e = proper.1.0 k ok (More-all m d k) e
+  Careful-yes e = proper.1.0 k ok (More-self m d k) e
 
   pub Careful-no : tells m d k l ≡ Some false → Careful m d k n
-  Careful-no e = proper.1.1 k ok (More-all m d k) e
+  Careful-no e = proper.1.1 k ok (More-self m d k) e
 
   module _ (open_look : tells m d k l ≡ None) where
     pub learnt_Good : (t : Bool) → Good m d (learn k l t)
@@ -107,18 +107,18 @@ module _ (m : Measure) (d : Schema) (know : Knowing m d) (l : Look) where
   careful_both (look h y n) k ok ask on_yes on_no = (
     first (tells m d k l) refl,
     (
-      λ j okj more e. careful_both y j okj (Askable-more m d k j more l ask)
-          (λ i oki on t. (on_yes i oki (More-on m d k j i more on) t).1.0 i oki (More-all m d i) (on h true e))
-          (λ i oki on t. (on_no i oki (More-on m d k j i more on) t).1.0 i oki (More-all m d i) (on h true e)),
-      λ j okj more e. careful_both n j okj (Askable-more m d k j more l ask)
-          (λ i oki on t. (on_yes i oki (More-on m d k j i more on) t).1.1 i oki (More-all m d i) (on h false e))
-          (λ i oki on t. (on_no i oki (More-on m d k j i more on) t).1.1 i oki (More-all m d i) (on h false e)),
+      λ j okj more e. careful_both y j okj (Askable-kept m d k j l more ask)
+          (λ i oki on t. (on_yes i oki (More-More m d k j i more on) t).1.0 i oki (More-self m d i) (on h true e))
+          (λ i oki on t. (on_no i oki (More-More m d k j i more on) t).1.0 i oki (More-self m d i) (on h true e)),
+      λ j okj more e. careful_both n j okj (Askable-kept m d k j l more ask)
+          (λ i oki on t. (on_yes i oki (More-More m d k j i more on) t).1.1 i oki (More-self m d i) (on h false e))
+          (λ i oki on t. (on_no i oki (More-More m d k j i more on) t).1.1 i oki (More-self m d i) (on h false e)),
     ),
   )
     where
       first : (o : Option Bool) → tells m d k l ≡ o → Askable m d k h
-      first (Some true) e = (on_yes k ok (More-all m d k) e).0
-      first (Some false) e = (on_no k ok (More-all m d k) e).0
+      first (Some true) e = (on_yes k ok (More-self m d k) e).0
+      first (Some false) e = (on_no k ok (More-self m d k) e).0
       first None e =
           Askable-both m d k l h
           (on_yes (learn k l true) (know.good k l true ok ask e) (know.grows k l true ok ask e) (know.told k l true ok ask e)).0

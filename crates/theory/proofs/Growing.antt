@@ -19,7 +19,7 @@ use Rattle.theory.proofs.Parts.{values_for, place_same}
 use Rattle.theory.proofs.Inhabiting.{all_at, type_filled}
 use Rattle.theory.proofs.Candidates.{agrees_here, same_given, row_of_sort, is_candidate}
 use Rattle.theory.proofs.Standing.{steps, choice_measured, Stood, Candid, stands_reached}
-use Rattle.theory.proofs.Facts.{none≢some, some_same}
+use Rattle.std.proofs.lemmas.Option.{none-some, same_Some}
 
 -- ── how deep facts go ──
 
@@ -64,18 +64,18 @@ module _ (m : Measure) (d : Schema) (k : Knowledge) where
 
   -- so is each part, down to the steps that are left
   Grown-below : (r : ℕ) (p : Place) (s : Step) (o : Option Value) (x : Value) → ((y : Value) → o ≡ Some y → Grown (suc r) p y) → step_into s o ≡ Some x → Grown r (below p s) x
-  Grown-below r p s None x h e = absurd (none≢some x e)
-  Grown-below r p s (Some (measured t a)) x h e = absurd (none≢some x e)
+  Grown-below r p s None x h e = absurd (none-some x e)
+  Grown-below r p s (Some (measured t a)) x h e = absurd (none-some x e)
   Grown-below r p s (Some (built c us)) x h e = go (eqb c s.constructor) refl e
     where
       go : (z : Bool) → eqb c s.constructor ≡ z → cond z (field_at us s.field) None ≡ Some x → Grown r (below p s) x
       go true f g = subst (λ y. Grown r (field p y s.field) x) (eqb-true c s.constructor f) ((h (built c us) refl).1 s.field x g)
-      go false f g = absurd (none≢some x g)
+      go false f g = absurd (none-some x g)
 
   Grown-at : (n : ℕ) (v : Value) → Grown n whole v → (p : Place) (r : ℕ) → r + steps p ≡ n → (x : Value) → part_at v p ≡ Some x → Grown r p x
   Grown-at n v g whole r e x h =
       let same : n ≡ r = omega arith in
-      subst (λ y. Grown r whole y) (some_same v x h) (subst (λ y. Grown y whole v) same g)
+      subst (λ y. Grown r whole y) (same_Some v x h) (subst (λ y. Grown y whole v) same g)
   Grown-at n v g (below p s) r e x h = Grown-below r p s (part_at v p) x (λ y f. Grown-at n v g p (suc r) (omega arith) y f) h
 
   -- ── every fact holds of what is grown deeper than all of them ──
@@ -95,7 +95,7 @@ module _ (m : Measure) (d : Schema) (k : Knowledge) where
         go (built e us) h typed =
             ap (built_by c) h
             ∙ same_given x (eqb e c) (agrees_here (same_place p p) (gives x (eqb e c)) (place_same p) (agree e (is_candidate m d k p e (candid p s.type e us l h s.placed typed)).agrees))
-        go (measured r a) h typed = absurd (choice_measured r (sym row ∙ ap (slice_get d.types) (some_same t s.type (sym placed ∙ s.placed)) ∙ typed.0))
+        go (measured r a) h typed = absurd (choice_measured r (sym row ∙ ap (slice_get d.types) (same_Some t s.type (sym placed ∙ s.placed)) ∙ typed.0))
 
     test_holds : (p : Place) (t : ℤ) (s : ℕ) (x : Bool) → steps p < n → Stood m d k v p → and_then (place_type d p) (sort_of d) ≡ Some s
         → ((r : ℕ) (a : ℤ) → atom_agrees_all m p r a k ≡ true → atom_agrees m p r a (passes p t) x ≡ true) → passes_at m t (part_at v p) ≡ x

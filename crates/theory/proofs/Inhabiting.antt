@@ -10,14 +10,15 @@ use Rattle.rules.specs.Garments.{Value, Values, built, measured, no_values, with
 use Rattle.theory.specs.Inhabited.{makes, inhabited_by, inhabited_with, all_of, makers, inhabited}
 use Rattle.theory.specs.Theorems.{InhabitedExactly}
 use Rattle.theory.proofs.Atoms.{any_from, any_to}
-use Rattle.theory.proofs.Making.{number_in, Made, makers-Made, inhabited_choice}
+use Rattle.theory.proofs.Making.{Made, makers-Made, inhabited_choice}
 use Rattle.theory.proofs.Parts.{values_for}
-use Rattle.theory.proofs.Facts.{none≢some, some_same}
+use Rattle.std.proofs.lemmas.Option.{none-some, same_Some}
+use Rattle.rules.proofs.Facts.{number_from_test}
 
 -- each type of a list passes that all pass
 pub all_at : (passing : ℕ → Bool) (ts : List ℕ) → all_of passing ts ≡ true → (i t : ℕ) → slice_get ts i ≡ Some t → passing t ≡ true
-all_at passing [] h i t e = absurd (none≢some t e)
-all_at passing (u ∷ ts) h zero t e = subst (λ x. passing x ≡ true) (some_same u t e) (and_parts (passing u) (all_of passing ts) h).0
+all_at passing [] h i t e = absurd (none-some t e)
+all_at passing (u ∷ ts) h zero t e = subst (λ x. passing x ≡ true) (same_Some u t e) (and_parts (passing u) (all_of passing ts) h).0
 all_at passing (u ∷ ts) h (suc i) t e = all_at passing ts (and_parts (passing u) (all_of passing ts) h).1 i t e
 
 module _ (m : Measure) (d : Schema) (law : Lawful m) where
@@ -57,7 +58,7 @@ module _ (m : Measure) (d : Schema) (law : Lawful m) where
     where
       by_maker : slice_get d.types t ≡ Some Choice → ((u : ℕ) → inhabited_with m d cs u ≡ true → Filled u)
           → (is_some_number (owner_of d c) t ≡ true) ⊎ (makes d cs t ≡ true) → Filled t
-      by_maker row rest (inl own) = filled_from c t (inhabited_with m d cs) row (number_in (owner_of d c) t own) h.1.0 rest
+      by_maker row rest (inl own) = filled_from c t (inhabited_with m d cs) row (number_from_test (owner_of d c) t own) h.1.0 rest
       by_maker row rest (inr other) = rest t (ap (inhabited_by m (makes d cs t)) row ∙ other)
 
       go : (o : Option TypeRow) → slice_get d.types t ≡ o → inhabited_by m (makes d (c ∷ cs) t) o ≡ true → ((u : ℕ) → inhabited_with m d cs u ≡ true → Filled u) → Filled t

@@ -1,6 +1,6 @@
 -- More knowledge keeps what is reached, what may be asked, and which runs are proper.
 use Rattle.std.proofs.Common.{◌≡◌, ℕ, Bool, true, false, is_some, Some, refl, ap}
-use mathlib.Core.Bool.{false≢true}
+use Rattle.std.proofs.lemmas.Bool.{false≢true}
 use Rattle.std.proofs.lemmas.Bool.{and_parts, and_from}
 use Rattle.std.specs.List.{slice_get}
 use Rattle.measure.specs.Measure.{Measure}
@@ -10,14 +10,14 @@ use Rattle.rules.specs.Sheets.{field}
 use Rattle.theory.specs.Runs.{Look, is_built, passes, says, Run, done, look}
 use Rattle.theory.specs.Knowledge.{Knowledge, candidate, only, reached, tells, tells_head, if_reached, Askable}
 use Rattle.theory.specs.Explore.{More, Proper}
-use Rattle.theory.proofs.Facts.{none≢some, some_same}
+use Rattle.std.proofs.lemmas.Option.{none-some, same_Some}
 
 -- a yes is told just where the place is reached and the constructor is the only one
 yes_parts : (r o c : Bool) → if_reached r (tells_head o c) ≡ Some true → (r ≡ true) × (o ≡ true)
-yes_parts false o c e = absurd (none≢some true e)
+yes_parts false o c e = absurd (none-some true e)
 yes_parts true true c e = (refl, refl)
-yes_parts true false true e = absurd (none≢some true e)
-yes_parts true false false e = absurd (false≢true (some_same false true e))
+yes_parts true false true e = absurd (none-some true e)
+yes_parts true false false e = absurd (false≢true (same_Some false true e))
 
 yes_from : (r o c : Bool) → r ≡ true → o ≡ true → if_reached r (tells_head o c) ≡ Some true
 yes_from true true c e f = refl

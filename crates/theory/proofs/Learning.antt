@@ -14,12 +14,12 @@ use Rattle.theory.specs.Theorems.{LearningSplits}
 use Rattle.theory.proofs.Atoms.{any_from, any_to, any_less, any_none}
 use Rattle.theory.proofs.Candidates.{agrees_here, sort_at, only_from}
 use Rattle.theory.proofs.Learnt.{allowed_learnt, candidate_learnt, open_head, passing, failing, tells_test_lem, open_test, still_candidate, still_atom, allowed_before, only_stays, reached_stays, heard_stays, Askable-stays, AllAskable-stay, AllHeard-stay}
-use Rattle.theory.proofs.Facts.{none≢some}
 use Rattle.theory.proofs.Parts.{place_same}
+use Rattle.std.proofs.lemmas.Option.{none-some}
 
 -- knowledge tells by less room, where room is left
 told_still : (y n y' n' b : Bool) → decided y n ≡ Some b → (y' ≡ true → y ≡ true) → (n' ≡ true → n ≡ true) → (y ≡ true → n ≡ false → y' ≡ true) → decided y' n' ≡ Some b
-told_still true true y' n' b e f g h = absurd (none≢some b e)
+told_still true true y' n' b e f g h = absurd (none-some b e)
 told_still true false true true b e f g h = absurd (false≢true (g refl))
 told_still true false true false b e f g h = e
 told_still true false false n' b e f g h = absurd (false≢true (h refl refl))
@@ -105,9 +105,9 @@ module _ (m : Measure) (d : Schema) (k : Knowledge) where
   module _ (law : Lawful m) (l : Look) (b : Bool) (ask : Askable m d k l) (untold : tells m d k l ≡ None) where
     head_grows : (p : Place) (c : ℕ) (x : Bool) (r o h : Bool) → reached m d k p ≡ r → only m d k p c ≡ o → candidate m d k p c ≡ h → if_reached r (tells_head o h) ≡ Some x
         → tells m d (learn k l b) (is_built p c) ≡ Some x
-    head_grows p c x false o h er eo eh e = absurd (none≢some x e)
+    head_grows p c x false o h er eo eh e = absurd (none-some x e)
     head_grows p c x true true h er eo eh e = tells_yes m d (learn k l b) p c (reached_stays m d k l b ask untold p er) (only_stays m d k l b ask untold p c eo) ∙ e
-    head_grows p c x true false true er eo eh e = absurd (none≢some x e)
+    head_grows p c x true false true er eo eh e = absurd (none-some x e)
     head_grows p c x true false false er eo eh e =
         tells_no m d (learn k l b) p c (reached_stays m d k l b ask untold p er) (candidate_learnt m d k l b p c ∙ and_right (head_agrees p c l b) (candidate m d k p c) eh) ∙ e
 
@@ -126,8 +126,8 @@ module _ (m : Measure) (d : Schema) (k : Knowledge) where
 
     test_grows : (p : Place) (t : ℤ) (x : Bool) (r : Bool) (o : Option ℕ) → reached m d k p ≡ r → and_then (place_type d p) (sort_of d) ≡ o → if_reached r (tells_test m k p t o) ≡ Some x
         → tells m d (learn k l b) (passes p t) ≡ Some x
-    test_grows p t x false o er eo e = absurd (none≢some x e)
-    test_grows p t x true None er eo e = absurd (none≢some x e)
+    test_grows p t x false o er eo e = absurd (none-some x e)
+    test_grows p t x true None er eo e = absurd (none-some x e)
     test_grows p t x true (Some s) er eo e =
         tells_test_lem m d (learn k l b) p t s (reached_stays m d k l b ask untold p er) eo
         ∙ told_still (any_atom (passing m k p s t)) (any_atom (failing m k p s t)) (any_atom (passing m (learn k l b) p s t)) (any_atom (failing m (learn k l b) p s t)) x e

@@ -12,8 +12,8 @@ use Rattle.theory.specs.Inhabited.{any_atom, all_of, inhabited}
 use Rattle.theory.specs.Knowledge.{Knowledge, learn, same_place, head_agrees, head_agrees_all, builds_type, candidate, only, reached, atom_agrees, atom_agrees_all, allowed, heard, decided, tells_head, tells_test, if_reached, tells, Askable, AllAskable, Heard, AllHeard}
 use Rattle.theory.proofs.Atoms.{any_to}
 use Rattle.theory.proofs.Candidates.{only-candidate, only_one, only_from, another}
-use Rattle.theory.proofs.Facts.{none≢some}
 use Rattle.theory.proofs.Parts.{same_place_lem}
+use Rattle.std.proofs.lemmas.Option.{none-some}
 
 -- ── tests that one more fact is part of ──
 
@@ -35,14 +35,14 @@ candidate_learnt m d k l b p c =
 
 pub open_head : (r o h : Bool) → r ≡ true → if_reached r (tells_head o h) ≡ None → (o ≡ false) × (h ≡ true)
 open_head false o h er e = absurd (false≢true er)
-open_head true true h er e = absurd (none≢some true (sym e))
+open_head true true h er e = absurd (none-some true (sym e))
 open_head true false true er e = (refl, refl)
-open_head true false false er e = absurd (none≢some false (sym e))
+open_head true false false er e = absurd (none-some false (sym e))
 
 open_both : (y n : Bool) → decided y n ≡ None → (y ≡ true) × (n ≡ true)
 open_both true true e = (refl, refl)
-open_both true false e = absurd (none≢some true (sym e))
-open_both false n e = absurd (none≢some false (sym e))
+open_both true false e = absurd (none-some true (sym e))
+open_both false n e = absurd (none-some false (sym e))
 
 -- the atoms that may stand at p and pass the test, or fail it
 abbrev pub passing : Measure → Knowledge → Place → ℕ → ℤ → ℤ → Bool
@@ -104,7 +104,7 @@ module _ (m : Measure) (d : Schema) (k : Knowledge) where
   heard_kept (says r) b untold q x e = go (same_question r q) refl
     where
       go : (z : Bool) → same_question r q ≡ z → cond z (Some b) (heard k q) ≡ Some x
-      go true f = absurd (none≢some x (sym untold ∙ ap (heard k) ((same_decides r q).0 f) ∙ e))
+      go true f = absurd (none-some x (sym untold ∙ ap (heard k) ((same_decides r q).0 f) ∙ e))
       go false f = e
 
   module _ (l : Look) (b : Bool) (ask : Askable m d k l) (untold : tells m d k l ≡ None) where

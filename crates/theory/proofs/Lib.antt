@@ -17,7 +17,6 @@ pub mod Learnt
 pub mod Learning
 pub mod Growing
 pub mod Verdicts
-pub mod Reaching
 pub mod Relevance
 pub mod Careful
 pub mod Explored

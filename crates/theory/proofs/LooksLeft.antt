@@ -6,7 +6,7 @@ use Rattle.theory.specs.Knowledge.{tells}
 use Rattle.theory.specs.Explore.{by_answer}
 use Rattle.theory.specs.Settle.{Known, settle}
 use Rattle.theory.specs.Left.{left, unknown, LooksFall}
-use Rattle.theory.proofs.Facts.{none≢some}
+use Rattle.std.proofs.lemmas.Option.{none-some}
 
 -- all that k tells j tells
 abbrev pub TellsOn : Known → Known → Type 0
@@ -41,7 +41,7 @@ module _ (weight : Look → ℕ) (k j : Known) (more : TellsOn k j) where
       go None e None f p q = omega arith
       go None e (Some true) f p q = omega arith
       go None e (Some false) f p q = omega arith
-      go (Some b) e None f p q = absurd (none≢some b (sym f ∙ more l b e))
+      go (Some b) e None f p q = absurd (none-some b (sym f ∙ more l b e))
       go (Some true) e (Some true) f p q = p
       go (Some false) e (Some false) f p q = q
       go (Some true) e (Some false) f p q = absurd (apart_answers (j l) (more l true e) f)
@@ -90,5 +90,5 @@ looks_fall = record {
   affords = λ m d k weight r l y n stops. stop_affords weight (tells m d k) r l y n stops;
   settled = λ m d k weight r. left_settled weight (tells m d k) (tells m d k) (λ _ _ z. z) r;
   shrinks = λ m d k j weight r more. left_shrinks weight (tells m d k) (tells m d j) more r;
-  within = λ m d k weight r. left_shrinks weight unknown (tells m d k) (λ l b e. absurd (none≢some b e)) r;
+  within = λ m d k weight r. left_shrinks weight unknown (tells m d k) (λ l b e. absurd (none-some b e)) r;
 }

@@ -1,30 +1,17 @@
 -- The makers are complete: a choice is inhabited once a constructor of it has all of its field types inhabited.
 use Rattle.std.proofs.Common.{◌≡◌, ℕ, zero, suc, ◌<◌, ◌≤◌, Bool, true, false, not, ◌⊎◌, List, [], ◌∷◌, length, Some, None, Option, sym, refl, ap, ◌∙◌, inl, inr, arith}
 use Rattle.std.specs.List.{slice_get}
-use Rattle.std.proofs.lemmas.Option.{slice_get_past}
-use Rattle.std.proofs.lemmas.Bool.{false≢true, cases_lt, and_parts, and_from, and_right, or_left, or_parts, not-true, not_from_true, not_from_false, eq-eqb, eqb-true}
+use Rattle.std.proofs.lemmas.Option.{slice_get_past, none-some}
+use Rattle.std.proofs.lemmas.Bool.{cases_lt, and_parts, and_from, and_right, or_left, or_parts, not-true, not_from_true, not_from_false}
 use Rattle.measure.specs.Measure.{Measure}
-use Rattle.rules.specs.declared.rows.TypeRow.{TypeRow}
-use Rattle.rules.specs.declared.rows.TypeRow.TheVariants.{Choice, Measured}
+use Rattle.rules.specs.declared.rows.TypeRow.TheVariants.{Choice}
 use Rattle.rules.specs.Book.{Schema, fields_of, owner_of, owner_in, is_choice}
 use Rattle.rules.specs.Garments.{is_some_number}
 use Rattle.theory.specs.Inhabited.{first_below, makes, inhabited_by, inhabited_with, all_of, wanted, fresh, take_in, closing, makers, inhabited}
 use Rattle.theory.proofs.Below.{first_passes, first_none, count, count_less, count_most, count_none}
-use Rattle.theory.proofs.Facts.{none≢some}
+use Rattle.rules.proofs.Facts.{test_from_number}
 
 -- ── readings ──
-
-pub choice_row : (o : Option TypeRow) → is_choice o ≡ true → o ≡ Some Choice
-choice_row None e = absurd (false≢true e)
-choice_row (Some Choice) e = refl
-choice_row (Some (Measured s)) e = absurd (false≢true e)
-
-pub number_in : (o : Option ℕ) (n : ℕ) → is_some_number o n ≡ true → o ≡ Some n
-number_in None n e = absurd (false≢true e)
-number_in (Some k) n e = ap Some (eqb-true k n e)
-
-pub in_number : (o : Option ℕ) (n : ℕ) → o ≡ Some n → is_some_number o n ≡ true
-in_number o n e = ap (λ x. is_some_number x n) e ∙ eq-eqb n n refl
 
 -- a constructor that builds a type stands in the table
 pub owner_below : (d : Schema) (c t : ℕ) → owner_of d c ≡ Some t → c < length d.constructors
@@ -32,7 +19,7 @@ owner_below d c t e = go (cases_lt c (length d.constructors))
   where
     go : (c < length d.constructors) ⊎ (length d.constructors ≤ c) → c < length d.constructors
     go (inl l) = l
-    go (inr l) = absurd (none≢some t (sym (ap owner_in (slice_get_past d.constructors c l)) ∙ e))
+    go (inr l) = absurd (none-some t (sym (ap owner_in (slice_get_past d.constructors c l)) ∙ e))
 
 module _ (m : Measure) (d : Schema) where
   -- ── how many constructors still could make the first garments of their type ──
@@ -54,7 +41,7 @@ module _ (m : Measure) (d : Schema) where
       go None e = refl
       go (Some t) e =
           and_right (is_choice (slice_get d.types t)) (not (makes d (c ∷ cs) t))
-          (not_from_true (makes d (c ∷ cs) t) (or_left (is_some_number (owner_of d c) t) (makes d cs t) (in_number (owner_of d c) t e)))
+          (not_from_true (makes d (c ∷ cs) t) (or_left (is_some_number (owner_of d c) t) (makes d cs t) (test_from_number (owner_of d c) t e)))
 
   fresh_parts : (cs : List ℕ) (c : ℕ) → fresh m d cs c ≡ true → (wanted d cs (owner_of d c) ≡ true) × (all_of (inhabited_with m d cs) (fields_of d c) ≡ true)
   fresh_parts cs c e = and_parts (wanted d cs (owner_of d c)) (all_of (inhabited_with m d cs) (fields_of d c)) e

@@ -6,7 +6,7 @@ use Rattle.measure.specs.Measure.{Measure}
 use Rattle.rules.specs.Book.{Schema}
 use Rattle.rules.specs.Garments.{Value, Values, no_values, with_value, Place, whole, below, field_at, OfType, OfTypes}
 use Rattle.theory.specs.Knowledge.{same_place}
-use Rattle.theory.proofs.Facts.{none≢some, some_same}
+use Rattle.std.proofs.lemmas.Option.{none-some, same_Some}
 
 pub same_place_lem : (p q : Place) → same_place p q ≡ true → p ≡ q
 same_place_lem whole whole e = refl
@@ -29,15 +29,15 @@ place_same (below p s) =
 module _ (m : Measure) (d : Schema) where
   -- a field that the constructor has stands in the value, and is of the field's type
   pub field_typed : (ts : List ℕ) (vs : Values) (i t : ℕ) → OfTypes m d ts vs → slice_get ts i ≡ Some t → (u : Value) × ((field_at vs i ≡ Some u) × OfType m d t u)
-  field_typed [] vs i t w e = absurd (none≢some t e)
+  field_typed [] vs i t w e = absurd (none-some t e)
   field_typed (t₁ ∷ ts) no_values i t w e = absurd w
-  field_typed (t₁ ∷ ts) (with_value v vs) zero t w e = (v, (refl, subst (λ x. OfType m d x v) (some_same t₁ t e) w.0))
+  field_typed (t₁ ∷ ts) (with_value v vs) zero t w e = (v, (refl, subst (λ x. OfType m d x v) (same_Some t₁ t e) w.0))
   field_typed (t₁ ∷ ts) (with_value v vs) (suc i) t w e = field_typed ts vs i t w.1 e
 
   -- a value for each type of a list, each with a property
   pub values_for : (Good : ℕ → Value → Type 0) (ts : List ℕ) → ((i t : ℕ) → slice_get ts i ≡ Some t → (v : Value) × (OfType m d t v × Good i v))
       → (vs : Values) × (OfTypes m d ts vs × ((i : ℕ) (u : Value) → field_at vs i ≡ Some u → Good i u))
-  values_for Good [] each = (no_values, (tt, λ i u e. absurd (none≢some u e)))
+  values_for Good [] each = (no_values, (tt, λ i u e. absurd (none-some u e)))
   values_for Good (t ∷ ts) each =
       let first = each 0 t refl in
       let rest = values_for (λ i. Good (suc i)) ts (λ i. each (suc i)) in
@@ -45,5 +45,5 @@ module _ (m : Measure) (d : Schema) where
     where
       at_field : (v : Value) (vs : Values) → Good 0 v → ((i : ℕ) (u : Value) → field_at vs i ≡ Some u → Good (suc i) u)
           → (i : ℕ) (u : Value) → field_at (with_value v vs) i ≡ Some u → Good i u
-      at_field v vs g rest zero u e = subst (λ x. Good 0 x) (some_same v u e) g
+      at_field v vs g rest zero u e = subst (λ x. Good 0 x) (same_Some v u e) g
       at_field v vs g rest (suc i) u e = rest i u e

@@ -3,19 +3,19 @@ use Rattle.measure.specs.Measure.{Measure}
 use Rattle.rules.specs.Book.{Schema}
 use Rattle.theory.specs.Verdicts.{Knowing}
 use Rattle.theory.specs.Quick.{Resuming, QuickHolds}
-use Rattle.theory.proofs.Reaching.{More-all}
 use Rattle.theory.proofs.Careful.{careful}
 use Rattle.theory.proofs.Judging.{knowing}
 use Rattle.theory.proofs.Resumed.{resume_first, resume_second, resume_ahead}
 use Rattle.theory.proofs.Branched.{Branching-holds}
 use Rattle.theory.proofs.Skipped.{Skipping-holds}
 use Rattle.theory.proofs.Remembered.{Remembering-holds}
+use Rattle.theory.proofs.Kept.{More-self}
 
 Resuming-holds : (m : Measure) (d : Schema) → Knowing m d → Resuming m d
 Resuming-holds m d know = record {
   first_run = resume_first m d;
-  second_run = λ k. resume_second m d k k (More-all m d k);
-  ahead = λ k first second ok p. resume_ahead m d know k first second k (More-all m d k) ok (careful m d first k p);
+  second_run = λ k. resume_second m d k k (More-self m d k);
+  ahead = λ k first second ok p. resume_ahead m d know k first second k (More-self m d k) ok (careful m d first k p);
 }
 
 pub quick : QuickHolds

@@ -1,9 +1,9 @@
 -- What is found of two runs depends only on what is known of their looks.
 use Rattle.std.proofs.Common.{◌≡◌, Bool, true, false, cond, ◌||◌, [], ◌∷◌, ◌++◌, Some, None, filter, Option, sym, refl, ap, ◌∙◌}
-use Rattle.std.specs.List.{ContainsAt as Has, AllByRecursion}
+use Rattle.std.specs.List.{All, Contains}
 use Rattle.std.proofs.lemmas.Bool.{or_parts}
 use Rattle.std.proofs.lemmas.List.Elements.{filter-append}
-use Rattle.std.proofs.ByRecursion.{all-has}
+use Rattle.std.proofs.lemmas.List.Elements.{All-nil, All-cons, All-head, All-tail, All-contains}
 use Rattle.measure.specs.Measure.{Measure}
 use Rattle.rules.specs.Book.{Schema}
 use Rattle.rules.specs.Sheets.{Answer}
@@ -17,7 +17,7 @@ use Rattle.theory.proofs.Careful.{careful}
 use Rattle.theory.proofs.Explored.{alike_shows}
 use Rattle.theory.proofs.Judging.{alike_found}
 use Rattle.theory.proofs.Relevance.{tells_same, same_learnt, kept_same}
-use Rattle.theory.proofs.Facts.{none≢some}
+use Rattle.std.proofs.lemmas.Option.{none-some}
 
 end_difference : (t : Bool) (k j : Knowledge) (a b : Answer) → difference (cond t alike (differs k a b)) ≡ difference (cond t alike (differs j a b))
 end_difference true k j a b = refl
@@ -25,8 +25,8 @@ end_difference false k j a b = refl
 
 next_difference : (x y u v : Verdict) → difference x ≡ difference u → difference y ≡ difference v → difference (or_next x y) ≡ difference (or_next u v)
 next_difference alike y alike v e f = f
-next_difference alike y (differs k a b) v e f = absurd (none≢some (a, b) e)
-next_difference (differs k a b) y alike v e f = absurd (none≢some (a, b) (sym e))
+next_difference alike y (differs k a b) v e f = absurd (none-some (a, b) e)
+next_difference (differs k a b) y alike v e f = absurd (none-some (a, b) (sym e))
 next_difference (differs k a b) y (differs j c z) v e f = e
 
 branch_difference : (o : Option Bool) (a b c z a' b' c' z' : Verdict) → difference a ≡ difference a' → difference b ≡ difference b' → difference c ≡ difference c' → difference z ≡ difference z'
@@ -83,7 +83,7 @@ by_relevant m d k j first second equal =
 
 no_difference : (v : Verdict) → difference v ≡ None → v ≡ alike
 no_difference alike e = refl
-no_difference (differs k a b) e = absurd (none≢some (a, b) (sym e))
+no_difference (differs k a b) e = absurd (none-some (a, b) (sym e))
 
 left_out : (test : Fact → Bool) (newer older : Knowledge) (f : Fact) → test f ≡ false → filter test (newer ++ f ∷ older) ≡ filter test (newer ++ older)
 left_out test newer older f e =
@@ -106,16 +106,16 @@ kept_twice test (f ∷ k) = go (test f) refl (kept_twice test k)
     go true e h = ap (λ (l : Knowledge). f ∷ l) h ∙ sym (ap (λ (t : Bool). cond t (f ∷ filter test (filter test k)) (filter test (filter test k))) e)
     go false e h = h
 
-Holds-All : (w : World) (k : Knowledge) → Holds w k → AllByRecursion (λ f. w f.asked ≡ f.answer) k
-Holds-All w [] h = tt
-Holds-All w (f ∷ k) h = (h.0, Holds-All w k h.1)
+Holds-All : (w : World) (k : Knowledge) → Holds w k → All (λ f. w f.asked ≡ f.answer) k
+Holds-All w [] h = All-nil (λ f. w f.asked ≡ f.answer)
+Holds-All w (f ∷ k) h = All-cons (λ f. w f.asked ≡ f.answer) f k h.0 (Holds-All w k h.1)
 
-Holds-among : (w : World) (j k : Knowledge) → Holds w j → AllByRecursion (Has j) k → Holds w k
+Holds-among : (w : World) (j k : Knowledge) → Holds w j → All (Contains j) k → Holds w k
 Holds-among w j [] h a = tt
-Holds-among w j (f ∷ k) h a = (all-has (λ g. w g.asked ≡ g.answer) j f (Holds-All w j h) a.0, Holds-among w j k h a.1)
+Holds-among w j (f ∷ k) h a = (All-contains (λ g. w g.asked ≡ g.answer) j f (Holds-All w j h) (All-head (Contains j) f k a), Holds-among w j k h (All-tail (Contains j) f k a))
 
 module _ (m : Measure) (d : Schema) (know : Knowing m d) (k j : Knowledge) (first second : Run) where
-  with_more : inhabited m d 0 ≡ true → Good m d j → Proper m d j first → Proper m d j second → AllByRecursion (Has j) (filter (relevant_to first second) k)
+  with_more : inhabited m d 0 ≡ true → Good m d j → Proper m d j first → Proper m d j second → All (Contains j) (filter (relevant_to first second) k)
       → explore m d k first second ≡ alike → explore m d j first second ≡ alike
   with_more some ok p q facts e =
       let core = filter (relevant_to first second) k in

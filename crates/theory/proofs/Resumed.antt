@@ -8,8 +8,8 @@ use Rattle.theory.specs.Knowledge.{Knowledge, learn, tells, Good}
 use Rattle.theory.specs.Explore.{Verdict, or_next, by_answer, explore_second, explore, More}
 use Rattle.theory.specs.Settle.{settle}
 use Rattle.theory.specs.Verdicts.{Knowing}
-use Rattle.theory.proofs.Reaching.{More-on}
 use Rattle.theory.proofs.Careful.{Careful, Careful-yes, Careful-no, learnt_Good, learnt_More, learnt_yes, learnt_no}
+use Rattle.theory.proofs.Kept.{More-More}
 
 module _ (m : Measure) (d : Schema) where
   pub resume_first : (k : Knowledge) (first second : Run) → explore m d k first second ≡ explore m d k (settle (tells m d k) first) second
@@ -54,7 +54,7 @@ module _ (m : Measure) (d : Schema) where
         go (Some true) e hy hn = hy j more ok (Careful-yes m d know j l y n p ok e)
         go (Some false) e hy hn = hn j more ok (Careful-no m d know j l y n p ok e)
         go None e hy hn =
-            let on_yes = hy (learn j l true) (More-on m d k j (learn j l true) more (learnt_More m d know j l y n p ok e true)) (learnt_Good m d know j l y n p ok e true) (learnt_yes m d know j l y n p ok e) in
-            let on_no = hn (learn j l false) (More-on m d k j (learn j l false) more (learnt_More m d know j l y n p ok e false)) (learnt_Good m d know j l y n p ok e false) (learnt_no m d know j l y n p ok e) in
+            let on_yes = hy (learn j l true) (More-More m d k j (learn j l true) more (learnt_More m d know j l y n p ok e true)) (learnt_Good m d know j l y n p ok e true) (learnt_yes m d know j l y n p ok e) in
+            let on_no = hn (learn j l false) (More-More m d k j (learn j l false) more (learnt_More m d know j l y n p ok e false)) (learnt_Good m d know j l y n p ok e false) (learnt_no m d know j l y n p ok e) in
             ap (λ (v : Verdict). or_next v (explore m d (learn j l false) n second)) on_yes
             ∙ ap (or_next (explore m d (learn j l true) y (settle (tells m d k) second))) on_no

@@ -4,10 +4,12 @@ use Rattle.measure.specs.Measure.{Measure}
 use Rattle.rules.specs.Book.{Schema}
 use Rattle.rules.specs.Sheets.{Answer}
 use Rattle.theory.specs.Runs.{Look, Run, done, look, World, execute}
-use Rattle.theory.specs.Knowledge.{Knowledge, learn, tells, Askable}
-use Rattle.theory.specs.Explore.{by_answer, or_next, explore, explore_second, Proper}
+use Rattle.theory.specs.Knowledge.{Knowledge, tells, Askable}
+use Rattle.theory.specs.Explore.{by_answer, Proper}
 use Rattle.theory.specs.Settle.{Known, settle, WaitsFor, Grows, Agrees, Settling}
 use Rattle.theory.proofs.Kept.{More-self}
+use Rattle.theory.proofs.LooksLeft.{stops_open}
+use Rattle.theory.proofs.Resumed.{resume_first, resume_second}
 
 -- ── one look by its answer ──
 
@@ -47,24 +49,6 @@ answers known w (look l y n) h = go (known l) refl (answers known w y h) (answer
 
 -- ── where it stops ──
 
-abbrev IsDone : Run → Type 0
-IsDone (done a) = Unit {0}
-IsDone (look l y n) = ⊥
-
-abbrev look_of : Look → Run → Look
-look_of l (done a) = l
-look_of l (look o y n) = o
-
-stops : (known : Known) (r : Run) (l : Look) (y n : Run) → settle known r ≡ look l y n → known l ≡ None
-stops known (done a) l y n e = absurd (subst IsDone e tt)
-stops known (look o u v) l y n e = go (known o) refl e (stops known u l y n) (stops known v l y n)
-  where
-    go : (k : Option Bool) → known o ≡ k → by_answer k (settle known u) (settle known v) (look o u v) ≡ look l y n
-        → (settle known u ≡ look l y n → known l ≡ None) → (settle known v ≡ look l y n → known l ≡ None) → known l ≡ None
-    go None q e f g = sym (ap (λ r. known (look_of o r)) e) ∙ q
-    go (Some true) q e f g = f e
-    go (Some false) q e f g = g e
-
 goes_on : (known later : Known) (r : Run) → Grows known later → settle later (settle known r) ≡ settle later r
 goes_on known later (done a) h = refl
 goes_on known later (look l y n) h = go (known l) refl (goes_on known later y h) (goes_on known later n h)
@@ -78,30 +62,6 @@ goes_on known later (look l y n) h = go (known l) refl (goes_on known later y h)
 -- ── exploring and proper runs ──
 
 module _ (m : Measure) (d : Schema) (k : Knowledge) where
-  explores_second : (a : Answer) (second : Run) → explore_second m d k a second ≡ explore_second m d k a (settle (tells m d k) second)
-  explores_second a (done b) = refl
-  explores_second a (look l y n) = go (tells m d k l) refl (explores_second a y) (explores_second a n)
-    where
-      go : (o : Option Bool) → tells m d k l ≡ o
-          → explore_second m d k a y ≡ explore_second m d k a (settle (tells m d k) y) → explore_second m d k a n ≡ explore_second m d k a (settle (tells m d k) n)
-          → by_answer o (explore_second m d k a y) (explore_second m d k a n) (or_next (explore_second m d (learn k l true) a y) (explore_second m d (learn k l false) a n))
-          ≡ explore_second m d k a (by_answer o (settle (tells m d k) y) (settle (tells m d k) n) (look l y n))
-      go None e f g = sym (ap (λ z. by_answer z (explore_second m d k a y) (explore_second m d k a n) (or_next (explore_second m d (learn k l true) a y) (explore_second m d (learn k l false) a n))) e)
-      go (Some true) e f g = f
-      go (Some false) e f g = g
-
-  explores : (first second : Run) → explore m d k first second ≡ explore m d k (settle (tells m d k) first) second
-  explores (done a) second = refl
-  explores (look l y n) second = go (tells m d k l) refl (explores y second) (explores n second)
-    where
-      go : (o : Option Bool) → tells m d k l ≡ o
-          → explore m d k y second ≡ explore m d k (settle (tells m d k) y) second → explore m d k n second ≡ explore m d k (settle (tells m d k) n) second
-          → by_answer o (explore m d k y second) (explore m d k n second) (or_next (explore m d (learn k l true) y second) (explore m d (learn k l false) n second))
-          ≡ explore m d k (by_answer o (settle (tells m d k) y) (settle (tells m d k) n) (look l y n)) second
-      go None e f g = sym (ap (λ z. by_answer z (explore m d k y second) (explore m d k n second) (or_next (explore m d (learn k l true) y second) (explore m d (learn k l false) n second))) e)
-      go (Some true) e f g = f
-      go (Some false) e f g = g
-
   stays_Proper : (r : Run) → Proper m d k r → Proper m d k (settle (tells m d k) r)
   stays_Proper (done a) h = tt
   stays_Proper (look l y n) h = go (tells m d k l) refl (stays_Proper y) (stays_Proper n)
@@ -119,10 +79,10 @@ pub settling : Settling
 settling = record {
   total = total;
   answers = answers;
-  stops_open = λ known r l w. stops known r l w.0 w.1 w.2;
+  stops_open = λ known r l w. stops_open known r l w.0 w.1 w.2;
   goes_on = goes_on;
-  explores = explores;
-  explores_second = explores_second;
+  explores = resume_first;
+  explores_second = λ m d k. resume_second m d k k (More-self m d k);
   stays_Proper = stays_Proper;
   stops_Askable = stops_Askable;
 }

@@ -8,7 +8,7 @@ use Rattle.rules.specs.Garments.{Value, Values, built, measured, no_values, with
 use Rattle.rules.specs.Sheets.{Pattern, Patterns, any, bind, build, either, gauge, no_patterns, with_pattern, Binding, Bound, both, binding, or_else, field, matches, matches_all, Clause, list_of, Answer, acts, question, tried, sheet_answer}
 use Rattle.rules.specs.Trees.{passes_at}
 use Rattle.theory.specs.Runs.{Run, World, execute, world_of, pattern_run, patterns_run, guarded_run, sheet_run, PatternFits, PatternsFit, SheetFits}
-use Rattle.theory.proofs.Facts.{choice≢measured}
+use Rattle.rules.proofs.Facts.{choice≢measured}
 
 -- ── going on by what was bound ──
 

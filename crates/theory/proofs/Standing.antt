@@ -11,7 +11,7 @@ use Rattle.rules.specs.Garments.{Value, Values, built, measured, Place, whole, b
 use Rattle.theory.specs.Knowledge.{Knowledge, candidate, only, reached}
 use Rattle.theory.proofs.Parts.{field_typed}
 use Rattle.theory.proofs.Candidates.{is_candidate, only-candidate, only_one}
-use Rattle.theory.proofs.Facts.{some_same}
+use Rattle.std.proofs.lemmas.Option.{same_Some}
 
 -- the number of steps of a place
 abbrev pub steps : Place → ℕ
@@ -53,7 +53,7 @@ module _ (m : Measure) (d : Schema) (k : Knowledge) (v : Value) where
           (us, (h ∙ ap (λ x. Some (built x us)) same, subst (λ x. OfTypes m d (fields_of d x) us) same w.2))
       go (measured r a) h w =
           let one = is_candidate m d k p c (only-candidate m d k p c o) in
-          absurd (choice_measured r (sym one.choice ∙ ap (slice_get d.types) (some_same one.type s.type (sym one.placed ∙ s.placed)) ∙ w.0))
+          absurd (choice_measured r (sym one.choice ∙ ap (slice_get d.types) (same_Some one.type s.type (sym one.placed ∙ s.placed)) ∙ w.0))
 
   pub stands_reached : (n : ℕ) → Candid n → OfType m d 0 v → (p : Place) → steps p < n → reached m d k p ≡ true → Stood p
   stands_reached n all w whole l r = record { value = v; type = 0; found = refl; placed = refl; typed = w }

@@ -17,19 +17,19 @@ use Rattle.theory.proofs.Atoms.{any_from}
 use Rattle.theory.proofs.Inhabiting.{types_found}
 use Rattle.theory.proofs.Candidates.{gives_same, row_of_sort, candidate_from}
 use Rattle.theory.proofs.Standing.{steps, choice_measured, Stood, Candid, found_only, stands_reached}
-use Rattle.theory.proofs.Facts.{none≢some, some_same}
 use Rattle.theory.proofs.Parts.{same_place_lem}
+use Rattle.std.proofs.lemmas.Option.{none-some, same_Some}
 
 -- where a yes, or a no, is possible, the other is told only if it is not
 told_yes : (y n b : Bool) → decided y n ≡ Some b → y ≡ true → b ≡ true
-told_yes true true b e h = absurd (none≢some b e)
-told_yes true false b e h = sym (some_same true b e)
+told_yes true true b e h = absurd (none-some b e)
+told_yes true false b e h = sym (same_Some true b e)
 told_yes false n b e h = absurd (false≢true h)
 
 told_no : (y n b : Bool) → decided y n ≡ Some b → n ≡ true → b ≡ false
-told_no true true b e h = absurd (none≢some b e)
+told_no true true b e h = absurd (none-some b e)
 told_no true false b e h = absurd (false≢true h)
-told_no false n b e h = sym (some_same false b e)
+told_no false n b e h = sym (same_Some false b e)
 
 module _ (m : Measure) (d : Schema) (v : Value) (rule : Rule) where
   -- what stands at a place agrees with all facts there
@@ -62,7 +62,7 @@ module _ (m : Measure) (d : Schema) (v : Value) (rule : Rule) where
 
   -- the rule gives the answers that were heard
   rule_heard : (k : Knowledge) (q : Question) (b : Bool) → Holds (world_of m v rule) k → heard k q ≡ Some b → rule q ≡ b
-  rule_heard [] q b w e = absurd (none≢some b e)
+  rule_heard [] q b w e = absurd (none-some b e)
   rule_heard (f ∷ k) q b w e = by_look f.asked f.answer w.0 e (rule_heard k q b w.1)
     where
       by_look : (l : Look) (x : Bool) → world_of m v rule l ≡ x → hearing l x q (heard k q) ≡ Some b → (heard k q ≡ Some b → rule q ≡ b) → rule q ≡ b
@@ -71,7 +71,7 @@ module _ (m : Measure) (d : Schema) (v : Value) (rule : Rule) where
       by_look (says r) x h e rest = go (same_question r q) refl e
         where
           go : (z : Bool) → same_question r q ≡ z → cond z (Some x) (heard k q) ≡ Some b → rule q ≡ b
-          go true f e = sym (ap rule ((same_decides r q).0 f)) ∙ h ∙ some_same x b e
+          go true f e = sym (ap rule ((same_decides r q).0 f)) ∙ h ∙ same_Some x b e
           go false f e = rest e
 
 module _ (m : Measure) (d : Schema) (k : Knowledge) (v : Value) (rule : Rule) (law : Lawful m) (fits : Fits m d k v rule) where
@@ -95,12 +95,12 @@ module _ (m : Measure) (d : Schema) (k : Knowledge) (v : Value) (rule : Rule) (l
           other false f = refl
 
   head_right : (p : Place) (c : ℕ) (b : Bool) (r o h : Bool) → reached m d k p ≡ r → only m d k p c ≡ o → candidate m d k p c ≡ h → if_reached r (tells_head o h) ≡ Some b → built_by c (part_at v p) ≡ b
-  head_right p c b false o h er eo eh e = absurd (none≢some b e)
+  head_right p c b false o h er eo eh e = absurd (none-some b e)
   head_right p c b true true h er eo eh e =
       let f = found_only m d k v (suc (steps p)) (candid (suc (steps p))) p c (omega arith) (stood p er) eo in
-      ap (built_by c) f.1.0 ∙ eq-eqb c c refl ∙ some_same true b e
-  head_right p c b true false true er eo eh e = absurd (none≢some b e)
-  head_right p c b true false false er eo eh e = not_built p c (stood p er) eh ∙ some_same false b e
+      ap (built_by c) f.1.0 ∙ eq-eqb c c refl ∙ same_Some true b e
+  head_right p c b true false true er eo eh e = absurd (none-some b e)
+  head_right p c b true false false er eo eh e = not_built p c (stood p er) eh ∙ same_Some false b e
 
   test_right : (p : Place) (t : ℤ) (b : Bool) (s : ℕ) → and_then (place_type d p) (sort_of d) ≡ Some s → Stood m d k v p → tells_test m k p t (Some s) ≡ Some b → passes_at m t (part_at v p) ≡ b
   test_right p t b s sort st e = go st.value st.found st.typed
@@ -128,8 +128,8 @@ module _ (m : Measure) (d : Schema) (k : Knowledge) (v : Value) (rule : Rule) (l
               (any_from (λ a. allowed m k p s a && not (m.passes s t a)) a (law.atom_fits s a is_atom) (and_from (allowed m k p s a) (not (m.passes s t a)) may_stand (not_from_false (m.passes s t a) f))))
 
   atom_right : (p : Place) (t : ℤ) (b : Bool) (r : Bool) (o : Option ℕ) → reached m d k p ≡ r → and_then (place_type d p) (sort_of d) ≡ o → if_reached r (tells_test m k p t o) ≡ Some b → passes_at m t (part_at v p) ≡ b
-  atom_right p t b false o er eo e = absurd (none≢some b e)
-  atom_right p t b true None er eo e = absurd (none≢some b e)
+  atom_right p t b false o er eo e = absurd (none-some b e)
+  atom_right p t b true None er eo e = absurd (none-some b e)
   atom_right p t b true (Some s) er eo e = test_right p t b s eo (stood p er) e
 
   all_right : (l : Look) (b : Bool) → tells m d k l ≡ Some b → world_of m v rule l ≡ b

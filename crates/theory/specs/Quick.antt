@@ -1,6 +1,6 @@
 -- What makes exploring quick: it may resume where it stopped, an open look costs two branches, looks that decide nothing may be skipped, and what was found may be remembered.
 use Rattle.std.specs.Prelude.{◌≡◌, ℕ, ◌+◌, ◌^◌, ◌≤◌, Bool, true, false, cond, ◌||◌, List, [], ◌∷◌, ◌++◌, length, ℤ, Some, None, filter, Option}
-use Rattle.std.specs.List.{ContainsAt as Has, AllByRecursion}
+use Rattle.std.specs.List.{All, Contains}
 use Rattle.measure.specs.Measure.{Measure, Lawful}
 use Rattle.guards.specs.Questions.{Question, Rule, same_question}
 use Rattle.rules.specs.Book.{Schema}
@@ -173,7 +173,7 @@ pub record Remembering (m : Measure) (d : Schema) : Type 0 where
       → explore m d k first second ≡ alike → explore m d j first second ≡ alike
   -- alike with fewer relevant facts, alike with more
   pub alike_with_more : (k j : Knowledge) (first second : Run) → inhabited m d 0 ≡ true
-      → Good m d j → Proper m d j first → Proper m d j second → AllByRecursion (Has j) (filter (relevant_to first second) k)
+      → Good m d j → Proper m d j first → Proper m d j second → All (Contains j) (filter (relevant_to first second) k)
       → explore m d k first second ≡ alike → explore m d j first second ≡ alike
   -- an irrelevant fact changes nothing, wherever it stands
   pub irrelevant : (newer older : Knowledge) (f : Fact) (first second : Run) → relevant_to first second f ≡ false

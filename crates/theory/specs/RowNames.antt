@@ -1,6 +1,6 @@
 -- Rows that name only rows that are there: then a row's meaning is made of the meanings of the whole table, and later rows do not change it.
 use Rattle.std.specs.Prelude.{◌≡◌, ℕ, suc, ◌+◌, ◌<◌, ◌≤◌, List, [], ◌∷◌, ◌++◌, length, take, drop, Some, None, Option}
-use Rattle.std.specs.List.{AllByRecursion, slice_get}
+use Rattle.std.specs.List.{All, slice_get}
 use Rattle.rules.specs.declared.rows.PatternRow.{PatternRow}
 use Rattle.rules.specs.declared.rows.PatternRow.TheVariants.{Any, Bind, Build, Either, Gauge}
 use Rattle.rules.specs.declared.rows.PlaceRow.{PlaceRow}
@@ -8,21 +8,21 @@ use Rattle.rules.specs.declared.rows.PairRow.{PairRow}
 use Rattle.rules.specs.declared.rows.NodeRow.{NodeRow}
 use Rattle.rules.specs.declared.rows.NodeRow.TheVariants.{Leaf, Fail, Never, Switch, Test, Ask}
 use Rattle.rules.specs.declared.rows.GarmentEntry.{GarmentEntry}
-use Rattle.rules.specs.Tables.{unfolded, numbers_of}
+use Rattle.rules.specs.Tables.{unfolded}
 use Rattle.rules.specs.Book.{Schema}
 use Rattle.rules.specs.Garments.{Place, whole, entry_value, entry_values}
 use Rattle.rules.specs.Sheets.{pattern_from, patterns_of}
 use Rattle.rules.specs.Trees.{place_from, node_from}
 
 abbrev pub AllBelow : ℕ → List ℕ → Type 0
-AllBelow k ns = AllByRecursion (λ n. n < k) ns
+AllBelow k ns = All (λ n. n < k) ns
 
 -- ── which rows a row names: those below k of its own table ──
 
 abbrev pub PatternBelow : ℕ → PatternRow → Type 0
 PatternBelow k (Any t) = Unit {0}
 PatternBelow k (Bind v n) = n < k
-PatternBelow k (Build c ps) = AllBelow k (numbers_of ps)
+PatternBelow k (Build c ps) = AllBelow k ps
 PatternBelow k (Either l r) = (l < k) × (r < k)
 PatternBelow k (Gauge t w n) = n < k
 
@@ -31,7 +31,7 @@ OtherBelow k None = Unit {0}
 OtherBelow k (Some n) = n < k
 
 abbrev pub PairsBelow : ℕ → List PairRow → Type 0
-PairsBelow k rows = AllByRecursion (λ (r : PairRow). r.node < k) rows
+PairsBelow k rows = All (λ (r : PairRow). r.node < k) rows
 
 abbrev pub NodeBelow : List PairRow → ℕ → NodeRow → Type 0
 NodeBelow pairs k (Leaf a ps) = Unit {0}
@@ -46,12 +46,12 @@ EntryBelow k e = AllBelow k (take e.count e.children)
 
 -- a node's places are among so many, and its pairs among so many
 abbrev pub NodeWithin : ℕ → ℕ → NodeRow → Type 0
-NodeWithin places pairs (Leaf a ps) = AllBelow places (numbers_of ps)
+NodeWithin places pairs (Leaf a ps) = AllBelow places ps
 NodeWithin places pairs Fail = Unit {0}
 NodeWithin places pairs Never = Unit {0}
 NodeWithin places pairs (Switch p o first count) = (p < places) × (first + count ≤ pairs)
 NodeWithin places pairs (Test p t y n) = p < places
-NodeWithin places pairs (Ask g ps y n) = AllBelow places (numbers_of ps)
+NodeWithin places pairs (Ask g ps y n) = AllBelow places ps
 
 -- ── what is proved ──
 
@@ -66,5 +66,5 @@ pub record RowsNameEarlier : Type 0 where
   pub entries : (d : Schema) (rows : List GarmentEntry) (i : ℕ) (row : GarmentEntry) → slice_get rows i ≡ Some row → EntryBelow i row
       → slice_get (entry_values d rows) i ≡ Some (entry_value d (entry_values d rows) row)
   -- later places and pairs change no node
-  pub nodes_kept : (places more : List Place) (pairs others : List PairRow) (rows : List NodeRow) → AllByRecursion (NodeWithin (length places) (length pairs)) rows
+  pub nodes_kept : (places more : List Place) (pairs others : List PairRow) (rows : List NodeRow) → All (NodeWithin (length places) (length pairs)) rows
       → unfolded (node_from (places ++ more) (pairs ++ others)) [] rows ≡ unfolded (node_from places pairs) [] rows

@@ -5,29 +5,24 @@ ghost use Rattle.theory.specs.Quick.{QuickHolds};
 ghost use Rattle.theory.specs.Left.{LooksFall};
 
 // Alike only where all get the same answer; where it says differs, some garment and rule get the two answers named.
-pub fn exploring_exact() -> u8
+#[tactic(auto, using(crate::proofs::Judging::exact))]
+pub fn exploring_exact()
     ensures { ExploringExact }
-{
-    0
-}
+{}
 
 // Alike exactly where every well-typed garment and rule get the same answers.
-pub fn verdict_exact() -> u8
+#[tactic(auto, using(crate::proofs::Judging::verdict_exact))]
+pub fn verdict_exact()
     ensures { VerdictExact }
-{
-    0
-}
+{}
 
 // What is left of a run falls with each look taken, whatever looks weigh.
-pub fn looks_fall() -> u8
+#[tactic(auto, using(crate::proofs::LooksLeft::looks_fall))]
+pub fn looks_fall()
     ensures { LooksFall }
-{
-    0
-}
+{}
 
 // Exploring may resume, branches in two, may skip looks that decide nothing, and may be remembered.
-pub fn quick_holds() -> u8
+pub fn quick_holds()
     ensures { QuickHolds }
-{
-    0
-}
+{}

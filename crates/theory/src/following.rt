@@ -6,36 +6,30 @@ ghost use Rattle.theory.specs.RowNames.{RowsNameEarlier};
 ghost use Rattle.theory.specs.Settle.{Settling};
 
 // settling a run by what someone knows keeps its answer, and stops only at open looks
-pub fn settling_holds() -> u8
+#[tactic(auto, using(crate::proofs::Settled::settling))]
+pub fn settling_holds()
     ensures { Settling }
-{
-    0
-}
+{}
 
 // what settles, form by form, whoever answers the looks
-pub fn bridges_hold() -> u8
+pub fn bridges_hold()
     ensures { BridgesHold }
-{
-    0
-}
+{}
 
 // the plain recursions end just as the runs settle
-pub fn following_holds() -> u8
+#[tactic(auto, using(crate::proofs::Followed::following))]
+pub fn following_holds()
     ensures { Following }
-{
-    0
-}
+{}
 
 // each row's meaning is made of the meanings before it
-pub fn rows_unfold() -> u8
+#[tactic(auto, using(crate::proofs::Unfolding::rows_unfold))]
+pub fn rows_unfold()
     ensures { RowsUnfold }
-{
-    0
-}
+{}
 
 // rows that name only earlier rows are made of the meanings of the whole table, and later rows do not change them
-pub fn rows_name_earlier() -> u8
+#[tactic(auto, using(crate::proofs::Naming::rows_name_earlier))]
+pub fn rows_name_earlier()
     ensures { RowsNameEarlier }
-{
-    0
-}
+{}

@@ -1,5 +1,5 @@
 // The theory of the judge: comparing two forms of rules by looks is exact both ways, ends, and may be quick.
-// Each function names a theorem in its contract; the number that it returns says nothing.
+// Each function has a theorem for its contract, which its caller learns.
 #![tactic(auto)]
 
 pub mod exploring;

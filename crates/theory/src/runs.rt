@@ -3,15 +3,13 @@ ghost use Rattle.theory.specs.ProperRuns.{RunsProper};
 ghost use Rattle.theory.specs.Theorems.{RunsAnswer};
 
 // executing a run in the world of a garment gives the answer that rules define
-pub fn runs_answer() -> u8
+#[tactic(auto, using(crate::proofs::TreeAnswers::runs_answer))]
+pub fn runs_answer()
     ensures { RunsAnswer }
-{
-    0
-}
+{}
 
 // a run takes only looks that may be taken with what its earlier looks have told
-pub fn runs_proper() -> u8
+#[tactic(auto, using(crate::proofs::ProperRuns::runs_proper))]
+pub fn runs_proper()
     ensures { RunsProper }
-{
-    0
-}
+{}

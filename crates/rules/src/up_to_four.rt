@@ -1,0 +1,68 @@
+// Up to four numbers, held in the value itself. A contract sees them as their list.
+ghost use Rattle.std.specs.Prelude.{◌≡◌, ◌≤◌, ◌↔◌, ◌==◌, length, IsSome, IfSome};
+
+use std::marker::Model;
+
+// The first `count` of `numbers`; the others are 0.
+#[derive(Clone, Copy, PartialEq, Eq, Debug)]
+pub struct UpToFour {
+    count: u8,
+    numbers: [u16; 4],
+}
+
+impl Model for UpToFour {
+    ghost use Rattle.std.specs.Prelude.{ℕ, List, length, take};
+    ghost use Rattle.rules.specs.UpToFour.{HoldsUpToFour, padded, length-held, padded-held};
+
+    ghost Value = { List ℕ };
+
+    ghost view = { λ u. take u.count u.numbers };
+
+    ghost invariant = { λ u. HoldsUpToFour u.count u.numbers };
+
+    ghost inverse = { λ l. record { count = length l; numbers = padded l } };
+
+    ghost inverse_ok = { λ u h i. record {
+      count = length-held u.count u.numbers h i;
+      numbers = padded-held u.count u.numbers h i;
+    } };
+}
+
+impl UpToFour {
+    // These numbers, or nothing where they are more than four.
+    pub fn new(numbers: &[u16]) -> Option<UpToFour>
+        ensures fits { IsSome result ↔ (length numbers.now ≤ 4) }
+        ensures held { IfSome result (λ u. u ≡ numbers.now) }
+    {
+        if numbers.len() > 4 {
+            return None;
+        }
+        let mut held = [0; 4];
+        held[..numbers.len()].copy_from_slice(numbers);
+        Some(UpToFour {
+            count: numbers.len() as u8,
+            numbers: held,
+        })
+    }
+
+    // The numbers as a slice.
+    pub fn as_slice(&self) -> &[u16]
+        ensures { result.now ≡ self.now }
+    {
+        &self.numbers[..self.len()]
+    }
+
+    // How many numbers there are.
+    pub fn len(&self) -> usize
+        ensures { result ≡ length self.now }
+    {
+        self.count as usize
+    }
+
+    // Whether there is no number.
+    pub fn is_empty(&self) -> bool
+        ensures { result ≡ (length self.now == 0) }
+    {
+        self.count == 0
+    }
+}
