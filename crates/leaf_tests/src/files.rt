@@ -1,6 +1,9 @@
 // Pattern files: a short one, files at the limits, and damaged files.
 use file_listing::listing;
-use pattern_file::{Entry, FileFault, FormatFault, WriteRefusal, count_calls, write_file};
+use pattern_file::{
+    AtEntry, CallName, Entry, FileFault, FormatFault, Placed, Reader, WriteRefusal, count_calls,
+    write_file,
+};
 use std::alloc::Global;
 use std::test::Fail;
 
@@ -32,7 +35,7 @@ fn listed(heap: Global, bytes: &[u8], wanted: &str) -> Result<(), Fail> {
 }
 
 fn fault(entry: usize, fault: FormatFault) -> Result<usize, FileFault> {
-    Err(FileFault { entry, fault })
+    Err(fault).at(entry)
 }
 
 #[test]
@@ -94,6 +97,33 @@ fn a_tag_is_unknown(rt: HostRuntime) -> Result<(), Fail> {
         fault(2, FormatFault::UnknownTag)
     );
     listed(rt.alloc(), bytes.as_slice(), "0 type -1\nrefused 10 2\n")
+}
+
+#[test]
+fn put_numbers_go_with_their_call(rt: HostRuntime) -> Result<(), Fail> {
+    let entries = [
+        Entry {
+            tag: 0,
+            number: 200,
+        },
+        Entry { tag: 0, number: -1 },
+        Entry { tag: 8, number: 7 },
+    ];
+    let bytes = file_of(rt.alloc(), &entries)?;
+    let Ok(Some(Placed { entry, item: call })) = Reader::open(bytes.as_slice()).next_call() else {
+        return Err(Fail::new("no call"));
+    };
+    assert!(rt; entry == 2);
+    assert!(rt; call.name() == CallName::Clause);
+    let put = call.parts().put;
+    assert!(rt; !put.is_empty());
+    assert_eq!(rt; put.get(1), Some(-1));
+    assert_eq!(rt; put.get(2), None);
+    let numbers = put.iter().collect::<Vec<i64>>(rt.alloc())?;
+    assert!(rt; numbers.as_slice()[..] == [200, -1]);
+    let text = format!(in rt.alloc(); "{call}")?;
+    assert!(rt; text.as_str() == "clause 7 200 -1");
+    Ok(())
 }
 
 #[test]

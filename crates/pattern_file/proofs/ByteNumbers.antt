@@ -2,7 +2,7 @@
 use Rattle.std.proofs.Common.{◌≡◌, ℕ, zero, suc, ◌+◌, ◌*◌, ◌/◌, ◌%◌, ◌<◌, ◌≤◌, List, [], ◌∷◌, ◌++◌, length, get_or, take, drop, ℤ, Some, sym, refl, ap, ◌∙◌, arith, w64, to_z, of_z}
 use native.Mathlib.Nat.{div-div-eq-div-mul, mod-add-div}
 use borrow.Author.Gap.{read_sfits}
-use Rattle.std.proofs.lemmas.List.{at_drop_more, drop-drop, drop-take, take-take}
+use Rattle.std.proofs.lemmas.List.{at_drop_more, drop-drop, drop-take, length-drop, length-take-le, take_all, take-take}
 use Rattle.std.proofs.lemmas.Int.{to_z-of_z}
 use Rattle.std.specs.List.{slice_get}
 use Rattle.pattern_file.specs.Bytes.{value_of, bytes_of, signed_at, numbers_in}
@@ -12,17 +12,17 @@ value_more n b i j e h =
     at_drop_more (λ (xs : List ℕ). value_of (take (suc n) xs)) b i 0 h ∙ ap (λ (k : ℕ). get_or b i 0 + 256 * value_of (take n (drop k b))) (sym e)
 
 -- eight bytes, as the library reads them
-value8 : (b : List ℕ) (i : ℕ) → i + 8 ≤ length b
-    → value_of (take 8 (drop i b)) ≡ get_or b i 0 + get_or b (i + 1) 0 * 256 + get_or b (i + 2) 0 * 65536 + get_or b (i + 3) 0 * 16777216 + get_or b (i + 4) 0 * 4294967296 + get_or b (i + 5) 0 * 1099511627776 + get_or b (i + 6) 0 * 281474976710656 + get_or b (i + 7) 0 * 72057594037927936
-value8 b i h =
-    let v0 = value_more 7 b i (i + 1) refl (omega arith) in
-    let v1 = value_more 6 b (i + 1) (i + 2) (omega arith) (omega arith) in
-    let v2 = value_more 5 b (i + 2) (i + 3) (omega arith) (omega arith) in
-    let v3 = value_more 4 b (i + 3) (i + 4) (omega arith) (omega arith) in
-    let v4 = value_more 3 b (i + 4) (i + 5) (omega arith) (omega arith) in
-    let v5 = value_more 2 b (i + 5) (i + 6) (omega arith) (omega arith) in
-    let v6 = value_more 1 b (i + 6) (i + 7) (omega arith) (omega arith) in
-    let v7 = value_more 0 b (i + 7) (i + 8) (omega arith) (omega arith) in
+value8 : (b : List ℕ) → 8 ≤ length b
+    → value_of (take 8 b) ≡ get_or b 0 0 + get_or b 1 0 * 256 + get_or b 2 0 * 65536 + get_or b 3 0 * 16777216 + get_or b 4 0 * 4294967296 + get_or b 5 0 * 1099511627776 + get_or b 6 0 * 281474976710656 + get_or b 7 0 * 72057594037927936
+value8 b h =
+    let v0 = value_more 7 b 0 1 refl (omega arith) in
+    let v1 = value_more 6 b 1 2 refl (omega arith) in
+    let v2 = value_more 5 b 2 3 refl (omega arith) in
+    let v3 = value_more 4 b 3 4 refl (omega arith) in
+    let v4 = value_more 3 b 4 5 refl (omega arith) in
+    let v5 = value_more 2 b 5 6 refl (omega arith) in
+    let v6 = value_more 1 b 6 7 refl (omega arith) in
+    let v7 = value_more 0 b 7 8 refl (omega arith) in
     omega arith
 
 -- a number that was read goes through a call unchanged
@@ -30,12 +30,15 @@ pub signed_passed : (b : List ℕ) (i : ℕ) (z : ℤ) → z ≡ signed_at b i �
 unfolding signed_at
 signed_passed b i z e = ap (λ (y : ℤ). to_z w64 (of_z w64 y)) e ∙ to_z-of_z w64 _ (read_sfits w64 (value_of (take 8 (drop i b))))
 
-pub signed_at_is : (b : List ℕ) (i : ℕ) (z : ℤ) → i + 8 ≤ length b
-    → z ≡ to_z w64 (get_or b i 0 + get_or b (i + 1) 0 * 256 + get_or b (i + 2) 0 * 65536 + get_or b (i + 3) 0 * 16777216 + get_or b (i + 4) 0 * 4294967296 + get_or b (i + 5) 0 * 1099511627776 + get_or b (i + 6) 0 * 281474976710656 + get_or b (i + 7) 0 * 72057594037927936)
+pub signed_at_is : (b eight : List ℕ) (i : ℕ) (z : ℤ) → i + 8 ≤ length b → eight ≡ take 8 (drop i b)
+    → z ≡ to_z w64 (get_or eight 0 0 + get_or eight 1 0 * 256 + get_or eight 2 0 * 65536 + get_or eight 3 0 * 16777216 + get_or eight 4 0 * 4294967296 + get_or eight 5 0 * 1099511627776 + get_or eight 6 0 * 281474976710656 + get_or eight 7 0 * 72057594037927936)
     → to_z w64 (of_z w64 z) ≡ signed_at b i
 unfolding signed_at
-signed_at_is b i z h e =
-    signed_passed b i z (e ∙ ap (to_z w64) (sym (value8 b i h)))
+signed_at_is b eight i z h q e =
+    let size : length eight ≡ 8 = ap length q ∙ length-take-le 8 (drop i b) (omega (arith, length-drop i b)) in
+    let value = value8 eight (omega arith) in
+    let all = take_all 8 eight (omega arith) in
+    signed_passed b i z (e ∙ ap (to_z w64) (sym value) ∙ ap (λ (xs : List ℕ). to_z w64 (value_of xs)) (all ∙ q))
 
 -- past the first bytes
 pub signed_at-drop : (b : List ℕ) (k i j : ℕ) → k + i ≡ j → signed_at (drop k b) i ≡ signed_at b j

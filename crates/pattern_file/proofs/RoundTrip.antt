@@ -1,5 +1,5 @@
 -- What was written reads back.
-use Rattle.std.proofs.Common.{◌≡◌, ℕ, ◌+◌, ◌≤◌, Bool, true, cond, leb, List, [], ◌∷◌, ◌++◌, map, length, take, drop, ℤ, Some, None, Ok, sym, refl, ap, ◌∙◌, arith, w64, SFits, to_z, of_z}
+use Rattle.std.proofs.Common.{◌≡◌, ℕ, suc, ◌+◌, ◌≤◌, Bool, true, cond, leb, List, [], ◌∷◌, ◌++◌, map, length, take, drop, ℤ, Some, None, Ok, sym, refl, ap, ◌∙◌, arith, w64, SFits, to_z, of_z}
 use mir.Facts.{Fits-of_z}
 use Rattle.std.specs.List.{flat_map}
 use Rattle.std.proofs.lemmas.List.{take_at, drop_at, drop-drop, length-append, length-map}
@@ -21,9 +21,9 @@ entries_back : (es : List Entry) → Fit es → entries_in (map tag_of_entry es)
 entries_back [] f = refl
 entries_back (e ∷ es) f =
     let more = flat_map number_of_entry es in
-    ap (λ (z : ℤ). record { tag = e.tag; number = z } ∷ entries_in (map tag_of_entry es) (drop 8 (number_of_entry e ++ more))) (signed_back e.number more f.0)
+    ap (λ (z : ℤ). record { tag = e.tag; number = z } ∷ entries_in (map tag_of_entry es) (drop 8 (number_of_entry e ++ more))) (signed_back e.number more (f 0 e (omega arith)))
     ∙ ap (λ (b : List ℕ). e ∷ entries_in (map tag_of_entry es) b) (drop_at (number_of_entry e) more 8 (length-signed_bytes e.number))
-    ∙ ap (λ (l : List Entry). e ∷ l) (entries_back es f.1)
+    ∙ ap (λ (l : List Entry). e ∷ l) (entries_back es (λ k d h. f (suc k) d (omega arith)))
 
 module _ (es : List Entry) (few : length es ≤ max_entries) where
   pub length-encode : length (encode es) ≡ file_length (length es)

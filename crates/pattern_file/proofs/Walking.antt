@@ -1,6 +1,7 @@
 -- A walk over the entries of a file: past the numbers that are put, to the call that takes them.
 use Rattle.std.proofs.Common.{◌≡◌, ℕ, zero, suc, ◌+◌, ◌-◌, ◌*◌, ◌<◌, ◌≤◌, Bool, cond, List, [], ◌∷◌, ◌++◌, length, get_or, drop, ℤ, sym, refl, ap, ◌∙◌, arith}
-use Rattle.std.proofs.lemmas.List.{at_drop_more, at_drop_all}
+use Rattle.std.proofs.lemmas.List.{at_drop_more, at_drop_all, get_or-drop}
+use Rattle.std.specs.List.{AllWithin}
 use Rattle.std.proofs.lemmas.Bool.{ne_eqb}
 use Rattle.pattern_file.specs.declared.faults.FormatFault.TheVariants.{NumbersLeft}
 use Rattle.pattern_file.specs.declared.entries.Entry.{Entry}
@@ -32,12 +33,12 @@ module _ (t b : List ℕ) where
       at_drop_more (calls_from n put) (entries_in t b) i none (omega (arith, length-entries_in t b))
       ∙ ap (λ (e : Entry). calls_from n put (e ∷ drop (i + 1) (entries_in t b))) (entry_at t b i none h)
 
-  pub run_start : (i : ℕ) → run_at t b i i ≡ rest_at t b i
+  run_start : (i : ℕ) → run_at t b i i ≡ rest_at t b i
   unfolding run_at rest_at
   run_start i = let none : i - i ≡ 0 = omega arith in ap (λ (k : ℕ). calls_from i (numbers_in k (drop (8 * i) b)) (drop i (entries_in t b))) none
 
   -- a number is put
-  pub run_more : (i e : ℕ) → i ≤ e → e < length t → get_or t e 0 ≡ 0 → run_at t b i (e + 1) ≡ run_at t b i e
+  run_more : (i e : ℕ) → i ≤ e → e < length t → get_or t e 0 ≡ 0 → run_at t b i (e + 1) ≡ run_at t b i e
   unfolding run_at
   run_more i e l h z =
       let before = numbers_in (e - i) (drop (8 * i) b) in
@@ -47,6 +48,14 @@ module _ (t b : List ℕ) where
       ap (λ (w : ℤ). before ++ (w ∷ [])) (sym (signed_at-drop b (8 * i) (8 * (e - i)) (8 * e) (omega arith)))
       ∙ sym (numbers_in_more (e - i) (drop (8 * i) b)) ∙ ap (λ (k : ℕ). numbers_in k (drop (8 * i) b)) longer in
       sym (step e before e h ∙ ap (λ (x : ℕ). calls_from e before (entry x (signed_at b (8 * e)) ∷ all)) z ∙ ap (λ (p : List ℤ). calls_from (e + 1) p all) put)
+
+  -- n numbers are put, up to the next call or the end
+  pub run_put : (n i e : ℕ) → e ≡ i + n → e ≤ length t → AllWithin (λ x. x ≡ 0) (drop i t) 0 n → run_at t b i e ≡ rest_at t b i
+  run_put zero i e q h z = let none : e ≡ i = omega arith in ap (λ (m : ℕ). run_at t b i m) none ∙ run_start i
+  run_put (suc n) i e q h z =
+      let more : e ≡ i + n + 1 = omega arith in
+      ap (λ (m : ℕ). run_at t b i m) more ∙ run_more i (i + n) (omega arith) (omega arith) (sym (get_or-drop i t n 0) ∙ z n 0 (omega arith) (omega arith))
+      ∙ run_put n i (i + n) refl (omega arith) (λ k d l m. z k d l (omega arith))
 
   run_past : (i e : ℕ) → length t ≤ e → run_at t b i e ≡ ending e (numbers_in (e - i) (drop (8 * i) b))
   unfolding run_at

@@ -1,16 +1,24 @@
 -- What the calls that the reader hands out mean.
-use Rattle.std.specs.Prelude.{List, ℤ}
+use Rattle.std.specs.Prelude.{ℕ, List, ◌++◌, ℤ, codes}
+use Rattle.std.specs.List.{flat_map}
+use Rattle.std.specs.Fmt.{signed_decimal}
 use Rattle.pattern_file.specs.declared.names.CallName.{CallName}
 use Rattle.pattern_file.specs.declared.names.CallName.TheVariants as name
-use Rattle.pattern_file.specs.declared.calls.PutNumbers.{PutNumbers}
+use Rattle.pattern_file.specs.declared.numbers.PutNumbers.{PutNumbers}
+use Rattle.pattern_file.specs.declared.numbers.Numbers.{Numbers}
 use Rattle.pattern_file.specs.declared.calls.Parts.{Parts}
 use Rattle.pattern_file.specs.declared.calls.Call.{Call}
 use Rattle.pattern_file.specs.declared.calls.Call.TheVariants.{«Type», Constructor, Any, Bind, Build, Either, Gauge, Clause, Place, Leaf, Fail, Never, Switch, Test, Ask}
 use Rattle.pattern_file.specs.Bytes.{whole_numbers}
+use Rattle.pattern_file.specs.Names.{text_of}
 
 -- the numbers of a part of the file
 abbrev pub numbers_put : PutNumbers → List ℤ
 numbers_put p = whole_numbers p.bytes.now
+
+-- the numbers that are still to come
+abbrev pub numbers_left : Numbers → List ℤ
+numbers_left n = whole_numbers n.bytes.now
 
 -- the call of a name
 abbrev pub named : Parts → CallName → Call
@@ -65,3 +73,15 @@ parts_of_call (Never p) = p
 parts_of_call (Switch p) = p
 parts_of_call (Test p) = p
 parts_of_call (Ask p) = p
+
+-- a number after a space
+abbrev pub spaced : ℤ → List ℕ
+spaced z = codes " " ++ signed_decimal z
+
+-- `NAME OWN PUT PUT ..`, the put numbers in order
+abbrev pub text_of_parts : List ℕ → ℤ → List ℤ → List ℕ
+text_of_parts name own put = name ++ (spaced own ++ flat_map spaced put)
+
+-- a call as text
+abbrev pub text_of_call : Call → List ℕ
+text_of_call c = text_of_parts (text_of (name_of_call c)) (parts_of_call c).own (numbers_put (parts_of_call c).put)

@@ -3,7 +3,7 @@ use Rattle.std.specs.Prelude.{ℕ, ◌+◌, ◌*◌, Bool, cond, ◌&&◌, List,
 use Rattle.std.specs.List.{flat_map}
 use Rattle.pattern_file.specs.declared.faults.FormatFault.{FormatFault}
 use Rattle.pattern_file.specs.declared.faults.FormatFault.TheVariants.{Length, UnknownTag, NumbersLeft}
-use Rattle.pattern_file.specs.declared.faults.FileFault.{FileFault}
+use Rattle.pattern_file.specs.declared.placed.Placed.{Placed}
 use Rattle.pattern_file.specs.declared.names.CallName.{CallName}
 use Rattle.pattern_file.specs.declared.entries.Entry.{Entry}
 use Rattle.pattern_file.specs.Bytes.{value_of, bytes_of, signed_at, signed_bytes}
@@ -20,7 +20,7 @@ pub record CallAt : Type 0 where
 -- the calls of a file, in order, up to its end or up to the fault that stopped them
 pub record Contents : Type 0 where
   pub calls : List CallAt
-  pub stop : Option FileFault
+  pub stop : Option (Placed FormatFault)
 
 abbrev pub finished : Contents
 finished = record { calls = []; stop = None }
@@ -98,7 +98,7 @@ abbrev pub contents : List ℕ → Contents
 contents b = calls_in (entries_of b)
 
 -- what is handed out first: a call, nothing at the end, or the fault
-abbrev pub first : Contents → Result (Option CallAt) FileFault
+abbrev pub first : Contents → Result (Option CallAt) (Placed FormatFault)
 first c = elim c.calls [ [] ↦ elim c.stop [ Some f ↦ Err f | None ↦ Ok None ] | x ∷ xs ↦ Ok (Some x) ]
 
 -- what is then still to come: the calls after it; the end and a fault stay
@@ -106,5 +106,5 @@ abbrev pub after : Contents → Contents
 after c = elim c.calls [ [] ↦ c | x ∷ xs ↦ record { calls = xs; stop = c.stop } ]
 
 -- how many calls there are, or the fault
-abbrev pub counted : Contents → Result ℕ FileFault
+abbrev pub counted : Contents → Result ℕ (Placed FormatFault)
 counted c = elim c.stop [ Some f ↦ Err f | None ↦ Ok (length c.calls) ]

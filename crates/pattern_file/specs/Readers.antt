@@ -1,11 +1,10 @@
 -- What a reader has still to hand out, and what its results mean.
 use Rattle.std.specs.Prelude.{ℕ, ◌-◌, ◌*◌, List, [], drop, ℤ, Some, None, Ok, Err, Option, Result}
 use Rattle.pattern_file.specs.declared.faults.FormatFault.{FormatFault}
-use Rattle.pattern_file.specs.declared.faults.FileFault.{FileFault}
+use Rattle.pattern_file.specs.declared.placed.Placed.{Placed}
 use Rattle.pattern_file.specs.declared.names.CallName.{CallName}
 use Rattle.pattern_file.specs.declared.calls.Call.{Call}
-use Rattle.pattern_file.specs.declared.calls.PlacedCall.{PlacedCall}
-use Rattle.pattern_file.specs.declared.opened.Reader.{Reader}
+use Rattle.pattern_file.specs.declared.unread.Unread.{Unread}
 use Rattle.pattern_file.specs.Bytes.{signed_at, numbers_in}
 use Rattle.pattern_file.specs.Calls.{numbers_put, name_of_call, parts_of_call}
 use Rattle.pattern_file.specs.declared.faults.FormatFault.TheVariants.{UnknownTag}
@@ -23,14 +22,14 @@ run_at tags numbers i e = calls_from e (numbers_in (e - i) (drop (8 * i) numbers
 abbrev pub call_or : Option CallName → ℕ → ℤ → List ℤ → Contents → Contents
 call_or o n own put more = by_name o (λ x. then (record { entry = n; name = x; own = own; put = put }) more) (stopped n UnknownTag)
 
--- a fault of the file's length stands before all else
-abbrev pub pending : Option FormatFault → Contents → Contents
-pending (Some f) c = stopped 0 f
-pending None c = c
+-- what comes from the entry on from which a file is still to be read
+abbrev pub rest_of : Unread → Contents
+rest_of u = rest_at u.tags.now u.numbers.now u.at
 
--- what a reader has still to hand out
-abbrev pub rest : Reader → Contents
-rest r = pending r.fault (rest_at r.tags.now r.numbers.now r.at)
+-- what a reader has still to hand out: a fault of the file's length stands before all else
+abbrev pub pending : Result Unread FormatFault → Contents
+pending (Ok u) = rest_of u
+pending (Err f) = stopped 0 f
 
 -- the meaning of a call at entry n
 abbrev pub call_at : ℕ → Call → CallAt
@@ -41,6 +40,6 @@ abbrev pub taken_at : List ℕ → ℕ → ℕ → CallName → CallAt
 taken_at numbers i e n = record { entry = e; name = n; own = signed_at numbers (8 * e); put = numbers_in (e - i) (drop (8 * i) numbers) }
 
 -- the meaning of what the reader hands out
-abbrev pub handed : Result (Option PlacedCall) FileFault → Result (Option CallAt) FileFault
-handed (Ok o) = Ok (elim o [ Some p ↦ Some (call_at p.entry p.call) | None ↦ None ])
+abbrev pub handed : Result (Option (Placed Call)) (Placed FormatFault) → Result (Option CallAt) (Placed FormatFault)
+handed (Ok o) = Ok (elim o [ Some p ↦ Some (call_at p.entry p.item) | None ↦ None ])
 handed (Err f) = Err f

@@ -1,7 +1,7 @@
 -- What the writer does, and what a file that was written says.
-use Rattle.std.specs.Prelude.{◌≡◌, ℕ, ◌≤◌, cond, List, ◌++◌, length, drop, Ok, Err, Result, FitsSigned, nat_le}
+use Rattle.std.specs.Prelude.{◌≡◌, ℕ, ◌≤◌, cond, List, ◌++◌, length, drop, Ok, Err, codes, Result, FitsSigned, nat_le}
 use Rattle.std.specs.Int.{w64}
-use Rattle.std.specs.List.{AllByRecursion}
+use Rattle.std.specs.List.{All}
 use Rattle.pattern_file.specs.declared.entries.Entry.{Entry}
 use Rattle.pattern_file.specs.declared.writing.WriteRefusal.{WriteRefusal}
 use Rattle.pattern_file.specs.declared.writing.WriteRefusal.TheVariants.{TooManyEntries, OutTooShort}
@@ -18,9 +18,14 @@ written es out =
     (cond (nat_le (file_length (length es)) (length out)) (encode es ++ drop (file_length (length es)) out, Ok (file_length (length es))) (out, Err OutTooShort))
     (out, Err TooManyEntries)
 
+-- what a refusal means, for people
+abbrev pub refusal_message : WriteRefusal → List ℕ
+refusal_message TooManyEntries = codes "too many entries"
+refusal_message OutTooShort = codes "too little memory"
+
 -- the numbers of the entries fit 64 bits
 abbrev pub Fit : List Entry → Type 0
-Fit es = AllByRecursion (λ (e : Entry). FitsSigned w64 e.number) es
+Fit es = All (λ (e : Entry). FitsSigned w64 e.number) es
 
 -- a file that is written from entries says what the entries say
 abbrev pub ReadsBack : Type 0

@@ -1,16 +1,11 @@
 // Calls as the reader hands them out: each has its own number, and the part of the file's bytes with the numbers put before it.
-ghost use Rattle.std.specs.Prelude.{◌≡◌, ◌+◌, ◌/◌, ◌≤◌, length};
-ghost use Rattle.pattern_file.specs.Bytes.{signed_at, whole_numbers};
-ghost use Rattle.std.specs.List.{slice_get};
-ghost use Rattle.pattern_file.specs.Calls.{numbers_put, named, name_of_call, parts_of_call};
+ghost use Rattle.std.specs.Prelude.{◌≡◌, Some as Printed};
+ghost use Rattle.pattern_file.specs.Calls.{named, name_of_call, parts_of_call, text_of_call};
 
 use crate::names::CallName;
-
-// The numbers put before a call, as they stand in the file: eight bytes each.
-#[derive(Clone, Copy)]
-pub struct PutNumbers<'a> {
-    pub(crate) bytes: &'a [u8],
-}
+use crate::numbers::PutNumbers;
+use crate::placed::Placed;
+use std::fmt;
 
 // What every call has.
 #[derive(Clone, Copy)]
@@ -39,62 +34,7 @@ pub enum Call<'a> {
 }
 
 // A call and its entry.
-#[derive(Clone, Copy)]
-pub struct PlacedCall<'a> {
-    pub entry: usize,
-    pub call: Call<'a>,
-}
-
-// The signed number of the eight bytes from `i` on.
-pub(crate) fn signed_at(bytes: &[u8], i: usize) -> i64
-    requires { i + 8 ≤ length bytes.now }
-    ensures { result ≡ signed_at bytes.now i }
-{
-    i64::from_le_bytes([
-        bytes[i],
-        bytes[i + 1],
-        bytes[i + 2],
-        bytes[i + 3],
-        bytes[i + 4],
-        bytes[i + 5],
-        bytes[i + 6],
-        bytes[i + 7],
-    ])
-}
-
-// How many whole numbers there are in some bytes.
-fn count_in(bytes: &[u8]) -> usize
-    ensures { result ≡ length bytes.now / 8 }
-{
-    bytes.len() / 8
-}
-
-// The number at `i` of those in some bytes.
-fn number_in(bytes: &[u8], i: usize) -> Option<i64>
-    ensures { result ≡ slice_get (whole_numbers bytes.now) i }
-{
-    if i < count_in(bytes) {
-        Some(signed_at(bytes, 8 * i))
-    } else {
-        None
-    }
-}
-
-impl<'a> PutNumbers<'a> {
-    // How many numbers there are.
-    pub fn len(&self) -> usize
-        ensures { result ≡ length (numbers_put self.now) }
-    {
-        count_in(self.bytes)
-    }
-
-    // The number at `i`, or nothing past the last.
-    pub fn get(&self, i: usize) -> Option<i64>
-        ensures { result ≡ slice_get (numbers_put self.now) i }
-    {
-        number_in(self.bytes, i)
-    }
-}
+pub type PlacedCall<'a> = Placed<Call<'a>>;
 
 impl<'a> Call<'a> {
     // The call of a name.
@@ -152,17 +92,32 @@ impl<'a> Call<'a> {
             | Call::Constructor(parts)
             | Call::Any(parts)
             | Call::Bind(parts)
-            | Call::Build(parts) => parts,
-            Call::Either(parts)
+            | Call::Build(parts)
+            | Call::Either(parts)
             | Call::Gauge(parts)
             | Call::Clause(parts)
             | Call::Place(parts)
-            | Call::Leaf(parts) => parts,
-            Call::Fail(parts)
+            | Call::Leaf(parts)
+            | Call::Fail(parts)
             | Call::Never(parts)
             | Call::Switch(parts)
             | Call::Test(parts)
             | Call::Ask(parts) => parts,
         }
+    }
+}
+
+// `NAME OWN PUT PUT ..`, the put numbers in order.
+impl fmt::Display for Call<'_> {
+    ghost output = { λ call. Printed (text_of_call call) };
+
+    fn fmt<W: fmt::Write>(&self, f: &mut fmt::Formatter<W>) -> fmt::Result {
+        let name = self.name();
+        let own = self.parts().own;
+        write!(f, "{name} {own}")?;
+        for number in self.parts().put.iter() {
+            write!(f, " {number}")?;
+        }
+        Ok(())
     }
 }

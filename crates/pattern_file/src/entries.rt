@@ -1,5 +1,8 @@
 // The entries of a file.
 
+// The most entries that a file may have.
+pub(crate) const MOST_ENTRIES: usize = 5_000;
+
 // Tag 0 puts its number on the list; a tag from 1 to 15 makes a call that takes the list.
 #[derive(Clone, Copy, PartialEq, Eq)]
 pub struct Entry {

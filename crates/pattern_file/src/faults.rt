@@ -1,7 +1,10 @@
-// What can be wrong with a file's bytes, and at which entry.
-ghost use Rattle.std.specs.Prelude.{◌≡◌, ℕ, Result as Outcome};
-ghost use Rattle.pattern_file.specs.declared.faults.FileFault.{FileFault as Found};
-ghost use Rattle.pattern_file.specs.Faults.{fault_number, placed};
+// What can be wrong with a file's bytes.
+ghost use Rattle.std.specs.Prelude.{◌≡◌, Some as Printed};
+ghost use Rattle.pattern_file.specs.Faults.{fault_number, message_of};
+
+use crate::placed::Placed;
+use std::error::Error;
+use std::fmt;
 
 // A fault of the format itself.
 #[derive(Clone, Copy, PartialEq, Eq, Debug)]
@@ -15,18 +18,14 @@ pub enum FormatFault {
 }
 
 // A fault with the entry at which reading stopped.
-#[derive(Clone, Copy, PartialEq, Eq, Debug)]
-pub struct FileFault {
-    pub entry: usize,
-    pub fault: FormatFault,
-}
+pub type FileFault = Placed<FormatFault>;
 
-impl FormatFault {
-    // The number by which the fault is reported.
-    pub fn number(self) -> u32
-        ensures { result ≡ fault_number self }
-    {
-        match self {
+// The number by which a fault is reported.
+impl From<FormatFault> for u32 {
+    ghost from_gives = { λ fault number. number ≡ fault_number fault };
+
+    fn from(fault: FormatFault) -> u32 {
+        match fault {
             FormatFault::Length => 10,
             FormatFault::UnknownTag => 10,
             FormatFault::NumbersLeft => 10,
@@ -34,21 +33,19 @@ impl FormatFault {
     }
 }
 
-// Adds to a fault the entry at which it was found.
-pub trait AtEntry<T>: Sized {
-    ghost places: { Self → ℕ → Outcome T Found → Type 0 };
+// What a fault means, for people.
+impl fmt::Display for FormatFault {
+    ghost output = { λ fault. Printed (message_of fault) };
 
-    fn at(self, entry: usize) -> Result<T, FileFault>
-        ensures { places self entry result };
-}
-
-impl<T> AtEntry<T> for Result<T, FormatFault> {
-    ghost places = { λ found n r. r ≡ placed found n };
-
-    fn at(self, entry: usize) -> Result<T, FileFault> {
-        match self {
-            Ok(value) => Ok(value),
-            Err(fault) => Err(FileFault { entry, fault }),
-        }
+    fn fmt<W: fmt::Write>(&self, f: &mut fmt::Formatter<W>) -> fmt::Result {
+        f.write_str(match self {
+            FormatFault::Length => {
+                "no pattern file: it has 4 + 9n bytes, where n, at most 5000, stands in the first four"
+            }
+            FormatFault::UnknownTag => "a tag above 15 is no call",
+            FormatFault::NumbersLeft => "numbers are left over after the last call",
+        })
     }
 }
+
+impl Error for FormatFault {}

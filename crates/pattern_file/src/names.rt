@@ -1,6 +1,9 @@
 // The fifteen calls of a file, by name, tag and text.
-ghost use Rattle.std.specs.Prelude.{◌≡◌, Some as Named};
-ghost use Rattle.pattern_file.specs.Names.{name_of, tag_of, text_of};
+ghost use Rattle.std.specs.Prelude.{◌≡◌, Some as Given};
+ghost use Rattle.pattern_file.specs.Names.{name_of, known, tag_of, text_of};
+
+use crate::faults::FormatFault;
+use std::fmt;
 
 #[derive(Clone, Copy, PartialEq, Eq)]
 pub enum CallName {
@@ -21,37 +24,40 @@ pub enum CallName {
     Ask,
 }
 
-impl CallName {
-    // The call of a tag, from 1 to 15.
-    pub fn of_tag(tag: u8) -> Option<CallName>
-        ensures { result ≡ name_of tag }
-    {
+// The call of a tag, from 1 to 15.
+impl TryFrom<u8> for CallName {
+    type Error = FormatFault;
+
+    ghost try_from_gives = { λ tag name. name ≡ known (name_of tag) };
+
+    fn try_from(tag: u8) -> Result<CallName, FormatFault> {
         match tag {
-            1 => Some(CallName::Type),
-            2 => Some(CallName::Constructor),
-            3 => Some(CallName::Any),
-            4 => Some(CallName::Bind),
-            5 => Some(CallName::Build),
-            6 => Some(CallName::Either),
-            7 => Some(CallName::Gauge),
-            8 => Some(CallName::Clause),
-            9 => Some(CallName::Place),
-            10 => Some(CallName::Leaf),
-            11 => Some(CallName::Fail),
-            12 => Some(CallName::Never),
-            13 => Some(CallName::Switch),
-            14 => Some(CallName::Test),
-            15 => Some(CallName::Ask),
-            _ => None,
+            1 => Ok(CallName::Type),
+            2 => Ok(CallName::Constructor),
+            3 => Ok(CallName::Any),
+            4 => Ok(CallName::Bind),
+            5 => Ok(CallName::Build),
+            6 => Ok(CallName::Either),
+            7 => Ok(CallName::Gauge),
+            8 => Ok(CallName::Clause),
+            9 => Ok(CallName::Place),
+            10 => Ok(CallName::Leaf),
+            11 => Ok(CallName::Fail),
+            12 => Ok(CallName::Never),
+            13 => Ok(CallName::Switch),
+            14 => Ok(CallName::Test),
+            15 => Ok(CallName::Ask),
+            _ => Err(FormatFault::UnknownTag),
         }
     }
+}
 
-    // The tag, from which `of_tag` gives the name back.
-    pub fn tag(self) -> u8
-        ensures value { result ≡ tag_of self }
-        ensures back { name_of result ≡ Named self }
-    {
-        match self {
+// The tag, which gives the name back.
+impl From<CallName> for u8 {
+    ghost from_gives = { λ name tag. (tag ≡ tag_of name) × (name_of tag ≡ Given name) };
+
+    fn from(name: CallName) -> u8 {
+        match name {
             CallName::Type => 1,
             CallName::Constructor => 2,
             CallName::Any => 3,
@@ -69,9 +75,11 @@ impl CallName {
             CallName::Ask => 15,
         }
     }
+}
 
+impl CallName {
     // The name as text.
-    pub fn text(self) -> &'static str
+    pub fn as_str(self) -> &'static str
         ensures { result.now ≡ text_of self }
     {
         match self {
@@ -91,5 +99,13 @@ impl CallName {
             CallName::Test => "test",
             CallName::Ask => "ask",
         }
+    }
+}
+
+impl fmt::Display for CallName {
+    ghost output = { λ name. Given (text_of name) };
+
+    fn fmt<W: fmt::Write>(&self, f: &mut fmt::Formatter<W>) -> fmt::Result {
+        f.write_str(self.as_str())
     }
 }

@@ -1,11 +1,12 @@
 // Writing a file from its entries: their number and their tags, then their numbers, which begin in the middle of the slice.
-ghost use Rattle.std.specs.Prelude.{◌≡◌, ◌+◌, ◌*◌, ◌≤◌, ◌++◌, map, length, take, drop, IfOk};
+ghost use Rattle.std.specs.Prelude.{◌≡◌, ◌*◌, ◌≤◌, ◌++◌, map, length, take, drop, IfOk, Some as Printed};
 ghost use Rattle.std.specs.List.{flat_map};
-ghost use Rattle.pattern_file.specs.Bytes.{signed_bytes};
 ghost use Rattle.pattern_file.specs.Contents.{tag_of_entry, number_of_entry, contents, calls_of};
-ghost use Rattle.pattern_file.specs.Writing.{size_for, written, Fit, ReadsBack};
+ghost use Rattle.pattern_file.specs.Writing.{size_for, written, refusal_message, Fit, ReadsBack};
 
-use crate::entries::Entry;
+use crate::entries::{Entry, MOST_ENTRIES};
+use std::error::Error;
+use std::fmt;
 
 // Why nothing was written.
 #[derive(Clone, Copy, PartialEq, Eq, Debug)]
@@ -16,50 +17,45 @@ pub enum WriteRefusal {
     OutTooShort,
 }
 
-// Writes the eight bytes of a number to the front of `out`.
-fn put_number(out: &mut [u8], number: i64)
-    requires { 8 ≤ length out.old }
-    ensures { out.new ≡ signed_bytes number ++ drop 8 out.old }
-{
-    out[0..8].copy_from_slice(&number.to_le_bytes());
-}
+// What a refusal means, for people.
+impl fmt::Display for WriteRefusal {
+    ghost output = { λ refusal. Printed (refusal_message refusal) };
 
-fn put_tags(out: &mut [u8], entries: &[Entry])
-    requires { length entries.now ≤ length out.old }
-    ensures { out.new ≡ map tag_of_entry entries.now ++ drop (length entries.now) out.old }
-{
-    for i in 0..entries.len() {
-        out[i] = entries[i].tag;
+    fn fmt<W: fmt::Write>(&self, f: &mut fmt::Formatter<W>) -> fmt::Result {
+        f.write_str(match self {
+            WriteRefusal::TooManyEntries => "too many entries",
+            WriteRefusal::OutTooShort => "too little memory",
+        })
     }
 }
 
-fn put_numbers(out: &mut [u8], entries: &[Entry])
-    requires { 8 * length entries.now ≤ length out.old }
-    ensures bytes { out.new ≡ flat_map number_of_entry entries.now ++ drop (8 * length entries.now) out.old }
+impl Error for WriteRefusal {}
+
+// Writes the entries' tags to the front of `out`, and then the eight bytes of each number.
+fn put_entries(out: &mut [u8], entries: &[Entry])
+    requires { 9 * length entries.now ≤ length out.old }
+    ensures bytes { out.new ≡ map tag_of_entry entries.now ++ (flat_map number_of_entry entries.now ++ drop (9 * length entries.now) out.old) }
     ensures fit { Fit entries.now }
 {
-    for i in 0..entries.len() {
-        put_number(&mut out[8 * i..], entries[i].number);
-    }
-}
-
-// The length of a file of `count` entries.
-fn size_for(count: usize) -> Result<usize, WriteRefusal>
-    ensures { result ≡ size_for count }
-{
-    if count > 5000 {
-        Err(WriteRefusal::TooManyEntries)
-    } else {
-        Ok(4 + 9 * count)
+    let (tags, numbers) = out.split_at_mut(entries.len());
+    for (i, entry) in entries.iter().enumerate() {
+        tags[i] = entry.tag;
+        numbers[8 * i..8 * i + 8].copy_from_slice(&entry.number.to_le_bytes());
     }
 }
 
 // The length of the file of these entries. `read_back` is a law of every list of entries.
+#[tactic(auto, using(crate::proofs::RoundTrip::reads_back))]
 pub fn file_length(entries: &[Entry]) -> Result<usize, WriteRefusal>
     ensures value { result ≡ size_for (length entries.now) }
     ensures read_back { ReadsBack }
 {
-    size_for(entries.len())
+    let count = entries.len();
+    if count > MOST_ENTRIES {
+        Err(WriteRefusal::TooManyEntries)
+    } else {
+        Ok(4 + 9 * count)
+    }
 }
 
 // Writes the file to the front of `out`, and says how long it is; at a refusal nothing is written.
@@ -71,9 +67,7 @@ pub fn write_file(out: &mut [u8], entries: &[Entry]) -> Result<usize, WriteRefus
     if out.len() < size {
         return Err(WriteRefusal::OutTooShort);
     }
-    let count = entries.len();
-    out[0..4].copy_from_slice(&(count as u32).to_le_bytes());
-    put_tags(&mut out[4..], entries);
-    put_numbers(&mut out[4 + count..], entries);
+    out[0..4].copy_from_slice(&(entries.len() as u32).to_le_bytes());
+    put_entries(&mut out[4..], entries);
     Ok(size)
 }

@@ -67,4 +67,4 @@ entries_fit m b lawful r = All-from_recursion EntryFits (release_entries b) (eac
 pub releases_read_back : ReleasesReadBack
 releases_read_back m b lawful r =
     let f = files_read_back m b r in
-    ap (read_contents m empty_book) (encoded_back (release_entries b) f.1 (All-weaker EntryFits (λ (e : Entry). SFits w64 e.number) (λ e h. h.1) (release_entries b) (each_fits m b lawful r))) ∙ f.0
+    ap (read_contents m empty_book) (encoded_back (release_entries b) f.1 (λ k d l. (entries_fit m b lawful r k d l).1)) ∙ f.0

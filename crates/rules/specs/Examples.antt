@@ -8,7 +8,8 @@ use Rattle.labels.specs.Labels.{labels}
 use Rattle.guards.specs.Questions.{Steps, Rule}
 use Rattle.pattern_file.specs.declared.entries.Entry.{Entry}
 use Rattle.pattern_file.specs.declared.names.CallName.TheVariants as call
-use Rattle.rules.specs.declared.refusal.ReadFault.{ReadFault}
+use Rattle.pattern_file.specs.declared.placed.Placed.{Placed}
+use Rattle.rules.specs.declared.refusal.Refusal.{Refusal}
 use Rattle.rules.specs.declared.rows.TypeRow.TheVariants.{Choice}
 use Rattle.rules.specs.declared.rows.GarmentEntry.{GarmentEntry}
 use Rattle.rules.specs.Refusals.{refusal_number}
@@ -31,9 +32,9 @@ abbrev pub IsRead : Measure → List Entry → ℕ → Type 0
 IsRead m es calls = (read_entries m empty_book es).result ≡ Ok calls
 
 -- where reading stops, if it does: the entry, and the number of the refusal
-abbrev pub stop_in : Result ℕ ReadFault → Option (ℕ × ℕ)
+abbrev pub stop_in : Result ℕ (Placed Refusal) → Option (ℕ × ℕ)
 stop_in (Ok calls) = None
-stop_in (Err f) = Some (f.entry, refusal_number f.refusal)
+stop_in (Err f) = Some (f.entry, refusal_number f.item)
 
 abbrev pub IsStopped : Measure → List Entry → ℕ → ℕ → Type 0
 IsStopped m es entry number = stop_in (read_entries m empty_book es).result ≡ Some (entry, number)

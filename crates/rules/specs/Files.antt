@@ -3,14 +3,14 @@ use Rattle.std.specs.Prelude.{ℕ, ◌+◌, List, [], ◌∷◌, ◌++◌, map, 
 use Rattle.std.specs.List.{flat_map}
 use Rattle.measure.specs.Measure.{Measure}
 use Rattle.pattern_file.specs.declared.entries.Entry.{Entry}
-use Rattle.pattern_file.specs.declared.faults.FileFault.{FileFault}
+use Rattle.pattern_file.specs.declared.faults.FormatFault.{FormatFault}
 use Rattle.pattern_file.specs.declared.names.CallName.{CallName}
 use Rattle.pattern_file.specs.declared.names.CallName.TheVariants as call
+use Rattle.pattern_file.specs.declared.placed.Placed.{Placed}
 use Rattle.pattern_file.specs.Names.{tag_of}
 use Rattle.pattern_file.specs.Contents.{CallAt, Contents, calls_of, contents, encode}
 use Rattle.rules.specs.declared.refusal.Refusal.{Refusal}
 use Rattle.rules.specs.declared.refusal.Refusal.TheVariants.{BadFile}
-use Rattle.rules.specs.declared.refusal.ReadFault.{ReadFault}
 use Rattle.rules.specs.declared.rows.TypeRow.{TypeRow}
 use Rattle.rules.specs.declared.rows.TypeRow.TheVariants.{Choice, Measured}
 use Rattle.rules.specs.declared.rows.ConstructorRow.{ConstructorRow}
@@ -73,16 +73,16 @@ file_of b = encode (release_entries b)
 -- the workbook after reading, and the number of calls or the first fault
 pub record Read : Type 0 where
   pub book : Book
-  pub result : Result ℕ ReadFault
+  pub result : Result ℕ (Placed Refusal)
 
 abbrev pub order_of : CallAt → Order
 order_of c = order c.name c.put c.own
 
-abbrev pub stopped_at : ℕ → Refusal → Result ℕ ReadFault
-stopped_at n r = Err (record { entry = n; refusal = r })
+abbrev pub stopped_at : ℕ → Refusal → Result ℕ (Placed Refusal)
+stopped_at n r = Err (record { entry = n; item = r })
 
 -- calls are carried out one by one; reading stops at the first that is refused, and earlier calls stand
-abbrev pub read_calls : Measure → ℕ → Book → List CallAt → Option FileFault → Read
+abbrev pub read_calls : Measure → ℕ → Book → List CallAt → Option (Placed FormatFault) → Read
 read_calls m n b [] None = record { book = b; result = Ok n }
 read_calls m n b [] (Some f) = record { book = b; result = stopped_at f.entry BadFile }
 read_calls m n b (c ∷ cs) stop =

@@ -2,6 +2,8 @@
 ghost use Rattle.std.specs.Prelude.{◌≡◌};
 ghost use Rattle.rules.specs.Refusals.{refusal_number};
 
+use pattern_file::Placed;
+
 #[derive(Clone, Copy, PartialEq, Eq, Debug)]
 pub enum Refusal {
     PassOut = 1,
@@ -32,8 +34,4 @@ impl From<Refusal> for u8 {
 }
 
 // Where and why reading a file stopped.
-#[derive(Clone, Copy, PartialEq, Eq, Debug)]
-pub struct ReadFault {
-    pub entry: usize,
-    pub refusal: Refusal,
-}
+pub type ReadFault = Placed<Refusal>;

@@ -1,7 +1,6 @@
 // A sheet and a tree as the entries of a pattern file, which is written, read again and listed.
-use anyhow::anyhow;
 use file_listing::listing;
-use pattern_file::{Entry, WriteRefusal, write_file};
+use pattern_file::{Entry, write_file};
 
 // A garment may have a length: the sheet has an action for lengths of at most 200, the tree for lengths of at most 199.
 const SAMPLE: [Entry; 31] = [
@@ -44,19 +43,9 @@ const SAMPLE: [Entry; 31] = [
     Entry { tag: 13, number: 0 },
 ];
 
-fn refusal(refused: WriteRefusal) -> anyhow::Error {
-    match refused {
-        WriteRefusal::TooManyEntries => anyhow!("too many entries"),
-        WriteRefusal::OutTooShort => anyhow!("too little memory"),
-    }
-}
-
 pub fn show(rt: &HostRuntime) -> anyhow::Result<()> {
     let mut bytes = vec![in rt.alloc(); 0u8; 45_004]?;
-    let length = match write_file(bytes.as_mut_slice(), &SAMPLE) {
-        Ok(length) => length,
-        Err(refused) => return Err(refusal(refused)),
-    };
+    let length = write_file(bytes.as_mut_slice(), &SAMPLE)?;
     println!(rt; "a sheet and a tree as a file of {length} bytes:")?;
     bytes.truncate(length);
     let text = listing(rt.alloc(), bytes.as_slice())?;

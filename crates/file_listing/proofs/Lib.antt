@@ -1,3 +1,0 @@
--- Lemmas of this crate.
-pub mod Joining
-pub mod Lines

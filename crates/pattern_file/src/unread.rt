@@ -1,0 +1,99 @@
+// What is still to be read of a file whose length is right.
+ghost use Rattle.std.specs.Prelude.{◌≡◌, ◌-◌, ◌*◌, ◌<◌, ◌≤◌, length, drop, if◌then◌else◌, Ok as Fine, Err as Refused, ◌≢◌, slice_index};
+ghost use Rattle.std.specs.List.{AllWithin};
+ghost use Rattle.pattern_file.specs.declared.faults.FormatFault.TheVariants.{Length as BadLength};
+ghost use Rattle.pattern_file.specs.Contents.{announced, well_sized, contents, first, after};
+
+use crate::calls::{Call, Parts, PlacedCall};
+use crate::entries::MOST_ENTRIES;
+use crate::faults::{FileFault, FormatFault};
+use crate::names::CallName;
+use crate::numbers::{PutNumbers, signed_at};
+use crate::placed::{AtEntry, Placed};
+
+// The tags and the number bytes of a file, and the entry from which it is still to be read.
+// Two slices, since the file has all tags before all numbers, and nothing is copied.
+#[derive(Drop)]
+pub(crate) struct Unread<'a> {
+    tags: &'a [u8],
+    numbers: &'a [u8],
+    at: usize,
+    ghost whole: { (length numbers.now ≡ 8 * length tags.now) × (at ≤ length tags.now) × (length tags.now ≤ 5000) },
+}
+
+// The number of entries of a file whose length is right.
+fn entry_count(bytes: &[u8]) -> Result<usize, FormatFault>
+    ensures { result ≡ (if well_sized bytes.now then Fine (announced bytes.now) else Refused BadLength) }
+{
+    let [a, b, c, d, entries @ ..] = bytes else {
+        return Err(FormatFault::Length);
+    };
+    let count = u32::from_le_bytes([*a, *b, *c, *d]) as usize;
+    if count > MOST_ENTRIES {
+        return Err(FormatFault::Length);
+    }
+    if entries.len() != 9 * count {
+        return Err(FormatFault::Length);
+    }
+    Ok(count)
+}
+
+impl<'a> Unread<'a> {
+    ghost use Rattle.pattern_file.specs.Readers.{run_at, rest_at, rest_of, pending, call_at, taken_at, handed};
+
+    // All entries of a file.
+    #[tactic(auto, using(crate::proofs::Opening::opened_file, crate::proofs::Opening::refused_file))]
+    pub(crate) fn open(bytes: &'a [u8]) -> Result<Unread<'a>, FormatFault>
+        ensures { pending result ≡ contents bytes.now }
+    {
+        let count = entry_count(bytes)?;
+        Ok(Unread {
+            tags: &bytes[4..4 + count],
+            numbers: &bytes[4 + count..],
+            at: 0,
+        })
+    }
+
+    // The entry of the next call, past the numbers that are put for it; or the end.
+    fn call_entry(&self) -> usize
+        ensures put { AllWithin (λ tag. tag ≡ 0) (drop self.now.at self.now.tags.now) 0 (result - self.now.at) }
+        ensures bound { (self.now.at ≤ result) × (result ≤ length self.now.tags.now) }
+        ensures call { result < length self.now.tags.now → slice_index self.now.tags.now result ≢ 0 }
+    {
+        match self.tags[self.at..].iter().position(|&tag| tag != 0) {
+            Some(put) => self.at + put,
+            None => self.tags.len(),
+        }
+    }
+
+    // The call of a name at `entry`, with the numbers put for it.
+    #[tactic(auto, using(crate::proofs::Finding::taken, crate::proofs::Finding::part_numbers, crate::proofs::ByteNumbers::signed_passed))]
+    fn call_at(&self, name: CallName, entry: usize) -> Call<'a>
+        requires { (self.now.at ≤ entry) × (entry < length self.now.tags.now) }
+        ensures { call_at entry result ≡ taken_at self.now.numbers.now self.now.at entry name }
+    {
+        let own = signed_at(self.numbers, 8 * entry);
+        let put = PutNumbers {
+            bytes: &self.numbers[8 * self.at..8 * entry],
+        };
+        Call::new(name, Parts { own, put })
+    }
+
+    // The next call with its entry; nothing at the end. A fault stays.
+    pub(crate) fn next_call(&mut self) -> Result<Option<PlacedCall<'a>>, FileFault>
+        ensures value { handed result ≡ first (rest_of self.old) }
+        ensures moves { rest_of self.new ≡ after (rest_of self.old) }
+    {
+        let entry = self.call_entry();
+        if entry == self.tags.len() {
+            if self.at < entry {
+                return Err(FormatFault::NumbersLeft).at(entry);
+            }
+            return Ok(None);
+        }
+        let name = CallName::try_from(self.tags[entry]).at(entry)?;
+        let item = self.call_at(name, entry);
+        self.at = entry + 1;
+        Ok(Some(Placed { entry, item }))
+    }
+}
