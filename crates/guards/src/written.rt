@@ -13,6 +13,7 @@ pub(crate) const MOST_PLACES: u16 = 4;
 pub(crate) const MOST_LISTED_STEPS: u16 = 16;
 
 /// A place: two numbers for each step.
+// No `impl Model`: the check refuses one beside `Copy` on a struct with a lifetime.
 #[derive(Clone, Copy)]
 pub struct WrittenPlace<'a> {
     pub(crate) numbers: &'a [u16],
@@ -51,6 +52,7 @@ impl<'a> WrittenPlace<'a> {
 }
 
 /// A question. Only reading makes one, so its numbers say one whole question.
+// No `impl Model`, as for a place.
 #[derive(Clone, Copy)]
 pub struct WrittenQuestion<'a> {
     pub(crate) numbers: &'a [u16],

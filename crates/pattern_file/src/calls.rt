@@ -14,6 +14,7 @@ pub struct Parts<'a> {
     pub put: PutNumbers<'a>,
 }
 
+// Each case has its own number and its run of put numbers, so that who carries a call out matches once; `CallName` is the case alone.
 #[derive(Clone, Copy)]
 pub enum Call<'a> {
     Type(Parts<'a>),

@@ -4,7 +4,7 @@
 pub(crate) const MOST_ENTRIES: usize = 5_000;
 
 // Tag 0 puts its number on the list; a tag from 1 to 15 makes a call that takes the list.
-#[derive(Clone, Copy, PartialEq, Eq)]
+#[derive(Clone, Copy, PartialEq, Eq, Debug)]
 pub struct Entry {
     pub tag: u8,
     pub number: i64,

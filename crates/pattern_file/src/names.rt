@@ -5,23 +5,23 @@ ghost use Rattle.pattern_file.specs.Names.{name_of, known, tag_of, text_of};
 use crate::faults::FormatFault;
 use std::fmt;
 
-#[derive(Clone, Copy, PartialEq, Eq)]
+#[derive(Clone, Copy, PartialEq, Eq, Debug)]
 pub enum CallName {
-    Type,
-    Constructor,
-    Any,
-    Bind,
-    Build,
-    Either,
-    Gauge,
-    Clause,
-    Place,
-    Leaf,
-    Fail,
-    Never,
-    Switch,
-    Test,
-    Ask,
+    Type = 1,
+    Constructor = 2,
+    Any = 3,
+    Bind = 4,
+    Build = 5,
+    Either = 6,
+    Gauge = 7,
+    Clause = 8,
+    Place = 9,
+    Leaf = 10,
+    Fail = 11,
+    Never = 12,
+    Switch = 13,
+    Test = 14,
+    Ask = 15,
 }
 
 // The call of a tag, from 1 to 15.
@@ -57,23 +57,7 @@ impl From<CallName> for u8 {
     ghost from_gives = { λ name tag. (tag ≡ tag_of name) × (name_of tag ≡ Given name) };
 
     fn from(name: CallName) -> u8 {
-        match name {
-            CallName::Type => 1,
-            CallName::Constructor => 2,
-            CallName::Any => 3,
-            CallName::Bind => 4,
-            CallName::Build => 5,
-            CallName::Either => 6,
-            CallName::Gauge => 7,
-            CallName::Clause => 8,
-            CallName::Place => 9,
-            CallName::Leaf => 10,
-            CallName::Fail => 11,
-            CallName::Never => 12,
-            CallName::Switch => 13,
-            CallName::Test => 14,
-            CallName::Ask => 15,
-        }
+        name as u8
     }
 }
 

@@ -4,6 +4,7 @@ ghost use Rattle.std.specs.Iterator.{YieldsFirst, item_count};
 ghost use Rattle.std.specs.List.{slice_get};
 ghost use Rattle.pattern_file.specs.Bytes.{signed_at, whole_numbers};
 
+// Bytes of the file itself, nothing copied. No `impl Model`: the check refuses one beside `Copy` on a struct with a lifetime.
 #[derive(Clone, Copy)]
 pub struct PutNumbers<'a> {
     pub(crate) bytes: &'a [u8],

@@ -38,6 +38,7 @@ fn put_entries(out: &mut [u8], entries: &[Entry])
     ensures fit { Fit entries.now }
 {
     let (tags, numbers) = out.split_at_mut(entries.len());
+    // by index: after a borrow of pieces of a slice a proof knows its length and not its bytes
     for (i, entry) in entries.iter().enumerate() {
         tags[i] = entry.tag;
         numbers[8 * i..8 * i + 8].copy_from_slice(&entry.number.to_le_bytes());

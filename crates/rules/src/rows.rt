@@ -2,6 +2,7 @@
 // Rows name earlier rows by number: calls return these numbers, and tables of stated sizes ask for no memory after set-up.
 use crate::up_to_four::UpToFour;
 use guards::Step;
+use measure::Ask;
 
 // A type: a choice between constructors, or measured by atoms of a sort.
 #[derive(Clone, Copy, PartialEq, Eq, Debug)]
@@ -28,8 +29,8 @@ pub enum PatternRow {
     Build { constructor: u16, parts: UpToFour },
     // the left pattern or else the right one
     Either { left: u16, right: u16 },
-    // atoms that give the wanted answer to the test
-    Gauge { test: i64, wanted: bool, inner: u16 },
+    // atoms that give the wanted answer to the test, and that the inner pattern matches
+    Gauge { ask: Ask, inner: u16 },
 }
 
 // A clause: a pattern, a guard if any, and an action.
@@ -41,7 +42,7 @@ pub struct ClauseRow {
 }
 
 // A place: one step below an earlier one. Place 0, the whole garment, has no row.
-#[derive(Clone, Copy, PartialEq, Eq)]
+#[derive(Clone, Copy, PartialEq, Eq, Debug)]
 pub struct PlaceRow {
     pub parent: u16,
     pub step: Step,
