@@ -99,8 +99,8 @@ module _ (m : Measure) (b : Book) (fitting : AllByRecursion (Fitted (schema_of b
   parts_fit : (put : List ℤ) (ts : List ℕ) → length put ≡ length ts → any_unknown b.patterns put ≡ false → parts_differ b put ts ≡ false
       → PatternsFit (schema_of b) ts (patterns_at (patterns_of b.patterns) (naturals put))
   parts_fit [] [] l h k = tt
-  parts_fit [] (t ∷ ts) l h k = let z : ⊥ = omega arith in absurd z
-  parts_fit (z ∷ put) [] l h k = let x : ⊥ = omega arith in absurd x
+  parts_fit [] (t ∷ ts) l h k = absurd (omega arith)
+  parts_fit (z ∷ put) [] l h k = absurd (omega arith)
   parts_fit (z ∷ put) (t ∷ ts) l h k =
       let i = or_parts (unknown b.patterns z) (any_unknown b.patterns put) h in
       let j = or_parts (differ (type_of_pattern b z) (Some t)) (parts_differ b put ts) k in

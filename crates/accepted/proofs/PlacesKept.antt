@@ -32,7 +32,7 @@ use Rattle.std.proofs.lemmas.Option.{slice_get-get_or}
 -- ── listed places ──
 
 pub among_at : (xs : List Place) (n : ℕ) (d : Place) → n < length xs → among xs (get_or xs n d) ≡ true
-among_at [] n d h = let z : ⊥ = omega arith in absurd z
+among_at [] n d h = absurd (omega arith)
 among_at (x ∷ xs) zero d h = or_left (same_place x x) (among xs x) (place_same x)
 among_at (x ∷ xs) (suc n) d h = or_right (same_place x (get_or xs n d)) (among xs (get_or xs n d)) (among_at xs n d (omega arith))
 

@@ -167,7 +167,7 @@ if_alike_lem P (released bytes) new old q p = p
 -- a call that returned a number had no ground
 not_refused : (g : Option Refusal) (o : Outcome) (n : ℕ) → ((r : Refusal) → g ≡ Some r → o ≡ refused r) → o ≡ returned n → g ≡ None
 not_refused None o n h e = refl
-not_refused (Some r) o n h e = let k : o ≡ refused r = h r refl in let z : ◌≡◌ {A = ℕ} 0 1 = cc in let x : ⊥ = omega arith in absurd x
+not_refused (Some r) o n h e = let k : o ≡ refused r = h r refl in cc
 
 -- what an accepted building call keeps, and clearing the sheet, clearing the tree and passes keep, any call keeps
 pub after_keeps : (P : Book → Type 0) (m : Measure) (b : Book) (c : Call) (o : Outcome) → ((r : Refusal) → refusal_of m b c ≡ Some r → o ≡ refused r)

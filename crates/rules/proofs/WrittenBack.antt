@@ -33,7 +33,7 @@ type_back m b [] (negsuc n) c = minus_one (eqb n 0) refl c.1.0
     minus_one : (t : Bool) → eqb n 0 ≡ t → not (t || false) ≡ false → order call.«Type» [] (negsuc 0) ≡ order call.«Type» [] (negsuc n)
     minus_one true e h = ap (λ k. order call.«Type» [] (negsuc k)) (sym (eqb-true n 0 e))
     minus_one false e h = absurd (true≢false h)
-type_back m b (z ∷ zs) own c = let e = parts_are (z ∷ zs) 0 c.0 in let x : ⊥ = omega arith in absurd x
+type_back m b (z ∷ zs) own c = let e = parts_are (z ∷ zs) 0 c.0 in absurd (omega arith)
 
 pub constructor_back : (m : Measure) (b : Book) (put : List ℤ) (own : ℤ) → Clear (building_grounds m b call.Constructor put own) → constructor_order (constructor_row put own) ≡ order call.Constructor put own
 constructor_back m b put own c =
@@ -41,14 +41,14 @@ constructor_back m b put own c =
     ap₂ (order call.Constructor) (naturals_known b.types put k.1) (natural_known b.types own k.0)
 
 pub place_back : (m : Measure) (b : Book) (put : List ℤ) (own : ℤ) → Clear (building_grounds m b call.Place put own) → place_order (place_row put own) ≡ order call.Place put own
-place_back m b [] own c = let e = parts_are [] 2 c.0 in let x : ⊥ = omega arith in absurd x
-place_back m b (p ∷ []) own c = let e = parts_are (p ∷ []) 2 c.0 in let x : ⊥ = omega arith in absurd x
+place_back m b [] own c = let e = parts_are [] 2 c.0 in absurd (omega arith)
+place_back m b (p ∷ []) own c = let e = parts_are (p ∷ []) 2 c.0 in absurd (omega arith)
 place_back m b (p ∷ s ∷ []) own c =
     let k = or_parts (unknown (places_of b) p) (unknown b.constructors s || unknown (fields_in (named b.constructors s)) own) c.1.0 in
     let j = or_parts (unknown b.constructors s) (unknown (fields_in (named b.constructors s)) own) k.1 in
     ap₂ (λ x y. order call.Place (x ∷ y ∷ []) (pos (natural own))) (natural_known (places_of b) p k.0) (natural_known b.constructors s j.0)
     ∙ ap (order call.Place (p ∷ s ∷ [])) (natural_known (fields_in (named b.constructors s)) own j.1)
-place_back m b (p ∷ s ∷ z ∷ zs) own c = let e = parts_are (p ∷ s ∷ z ∷ zs) 2 c.0 in let x : ⊥ = omega arith in absurd x
+place_back m b (p ∷ s ∷ z ∷ zs) own c = let e = parts_are (p ∷ s ∷ z ∷ zs) 2 c.0 in absurd (omega arith)
 
 -- ── nodes; the pairs of a new switch stand after the others ──
 
@@ -59,16 +59,16 @@ leaf_back m b pairs put own c =
 
 pub fail_back : (m : Measure) (b : Book) (pairs : List PairRow) (put : List ℤ) (own : ℤ) → Clear (building_grounds m b call.Fail put own) → node_order pairs Fail ≡ order call.Fail put own
 fail_back m b pairs [] own c = ap (order call.Fail []) (zero_under own c.1.0)
-fail_back m b pairs (z ∷ zs) own c = let e = parts_are (z ∷ zs) 0 c.0 in let x : ⊥ = omega arith in absurd x
+fail_back m b pairs (z ∷ zs) own c = let e = parts_are (z ∷ zs) 0 c.0 in absurd (omega arith)
 
 pub never_back : (m : Measure) (b : Book) (pairs : List PairRow) (put : List ℤ) (own : ℤ) → Clear (building_grounds m b call.Never put own) → node_order pairs Never ≡ order call.Never put own
 never_back m b pairs [] own c = ap (order call.Never []) (zero_under own c.1.0)
-never_back m b pairs (z ∷ zs) own c = let e = parts_are (z ∷ zs) 0 c.0 in let x : ⊥ = omega arith in absurd x
+never_back m b pairs (z ∷ zs) own c = let e = parts_are (z ∷ zs) 0 c.0 in absurd (omega arith)
 
 -- pairs of known constructors and nodes come back from their rows
 pairs_known : {A B : Type 0} (xs : List A) (ys : List B) (zs : List ℤ) → length zs % 2 ≡ 0 → any_unknown xs (evens zs) ≡ false → any_unknown ys (odds zs) ≡ false → pair_numbers (pair_rows zs) ≡ zs
 pairs_known xs ys [] l h k = refl
-pairs_known xs ys (c ∷ []) l h k = let x : ⊥ = omega arith in absurd x
+pairs_known xs ys (c ∷ []) l h k = absurd (omega arith)
 pairs_known xs ys (c ∷ n ∷ zs) l h k =
     let p = or_parts (unknown xs c) (any_unknown xs (evens zs)) h in
     let q = or_parts (unknown ys n) (any_unknown ys (odds zs)) k in
@@ -96,22 +96,22 @@ switch_back m b (z ∷ zs) own c =
     ∙ ap (order call.Switch (z ∷ zs)) (natural_known (places_of b) own k.0)
 
 pub test_back : (m : Measure) (b : Book) (pairs : List PairRow) (put : List ℤ) (own : ℤ) → Clear (building_grounds m b call.Test put own) → node_order pairs (test_row put own) ≡ order call.Test put own
-test_back m b pairs [] own c = let e = parts_are [] 3 c.0 in let x : ⊥ = omega arith in absurd x
-test_back m b pairs (t ∷ []) own c = let e = parts_are (t ∷ []) 3 c.0 in let x : ⊥ = omega arith in absurd x
-test_back m b pairs (t ∷ y ∷ []) own c = let e = parts_are (t ∷ y ∷ []) 3 c.0 in let x : ⊥ = omega arith in absurd x
+test_back m b pairs [] own c = let e = parts_are [] 3 c.0 in absurd (omega arith)
+test_back m b pairs (t ∷ []) own c = let e = parts_are (t ∷ []) 3 c.0 in absurd (omega arith)
+test_back m b pairs (t ∷ y ∷ []) own c = let e = parts_are (t ∷ y ∷ []) 3 c.0 in absurd (omega arith)
 test_back m b pairs (t ∷ y ∷ n ∷ []) own c =
     let k = or_parts (unknown (places_of b) own) (unknown b.nodes y || unknown b.nodes n) c.1.0 in
     let j = or_parts (unknown b.nodes y) (unknown b.nodes n) k.1 in
     ap₂ (λ u v. order call.Test (t ∷ u ∷ v ∷ []) (pos (natural own))) (natural_known b.nodes y j.0) (natural_known b.nodes n j.1)
     ∙ ap (order call.Test (t ∷ y ∷ n ∷ [])) (natural_known (places_of b) own k.0)
-test_back m b pairs (t ∷ y ∷ n ∷ z ∷ zs) own c = let e = parts_are (t ∷ y ∷ n ∷ z ∷ zs) 3 c.0 in let x : ⊥ = omega arith in absurd x
+test_back m b pairs (t ∷ y ∷ n ∷ z ∷ zs) own c = let e = parts_are (t ∷ y ∷ n ∷ z ∷ zs) 3 c.0 in absurd (omega arith)
 
 ask_parts : (put : List ℤ) → (ltb (length put) 2 || ltb 6 (length put)) ≡ false → (2 ≤ length put) × (length put ≤ 6)
 ask_parts put h = let p = or_parts (ltb (length put) 2) (ltb 6 (length put)) h in (ltb-false (length put) 2 p.0, ltb-false 6 (length put) p.1)
 
 pub ask_back : (m : Measure) (b : Book) (pairs : List PairRow) (put : List ℤ) (own : ℤ) → Clear (building_grounds m b call.Ask put own) → node_order pairs (ask_row put own) ≡ order call.Ask put own
-ask_back m b pairs [] own c = let e = ask_parts [] c.0 in let x : ⊥ = omega arith in absurd x
-ask_back m b pairs (y ∷ []) own c = let e = ask_parts (y ∷ []) c.0 in let x : ⊥ = omega arith in absurd x
+ask_back m b pairs [] own c = let e = ask_parts [] c.0 in absurd (omega arith)
+ask_back m b pairs (y ∷ []) own c = let e = ask_parts (y ∷ []) c.0 in absurd (omega arith)
 ask_back m b pairs (y ∷ n ∷ zs) own c =
     let l = ask_parts (y ∷ n ∷ zs) c.0 in
     let k = or_parts (not (is_code own)) ((unknown b.nodes y || unknown b.nodes n) || any_unknown (places_of b) zs) c.1.0 in

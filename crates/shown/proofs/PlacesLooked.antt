@@ -82,7 +82,7 @@ module _ (ps : List Place) (ok : Interned ps) where
   stand_among : (p : Place) (r : Run) → among all p ≡ true → runs_among all r ≡ true → runs_among all (stand_run p r) ≡ true
   stand_among whole r h k = k
   stand_among (below p s) r h k =
-      let up : among all p ≡ true = ok.closed (below p s) h (λ e. let z : ◌≡◌ {A = ℕ} 0 1 = cc in omega arith) in
+      let up : among all p ≡ true = ok.closed (below p s) h (λ e. cc) in
       stand_among p (look (is_built p s.constructor) r (done lost)) up (look_among all (is_built p s.constructor) r (done lost) up k refl)
 
   stands_among : (qs : List Place) (r : Run) → all_among all qs ≡ true → runs_among all r ≡ true → runs_among all (stand_all_run qs r) ≡ true

@@ -118,7 +118,7 @@ module _ (m : Measure) (d : Schema) (k : Knowledge) (pick : Place → ℕ → �
           fits = can;
           fields = λ i j u q h. children_at (entry_values d sh.entries) ns i j (entry_at sh.entry_of default_of p c (fields_of d c) 0 i i u j (omega arith) q h);
         })
-        (λ s other. absurd (let z : ◌≡◌ {A = ℕ} 0 1 = cc in omega arith)))
+        (λ s other. cc))
 
     measured_shown : (s : ℕ) → slice_get d.types t ≡ Some (Measured s) → allowed m k p s (pick p s) ≡ true → PlaceShown ps p sh (shown_with sh p (measured_entry t (pick p s)))
     measured_shown s row a =
@@ -126,7 +126,7 @@ module _ (m : Measure) (d : Schema) (k : Knowledge) (pick : Place → ℕ → �
         entry_shown ps sh p (measured_entry t (pick p s))
         (one_more m d k pick default_of ps sh p t (measured_entry t (pick p s)) ok first r refl
         (measured_fits_lem m d sh.entries t s (pick p s) row atom.0)
-        (λ other. absurd (let z : ◌≡◌ {A = ℕ} 0 1 = cc in omega arith))
+        (λ other. cc)
         (λ u same. let sorts : s ≡ u = cc in measured_value m d sh.entries t s (pick p s) row ∙ ap (λ x. measured x (pick p x)) sorts))
 
     row_shown : ((s : ℕ) → slice_get d.types t ≡ Some (Measured s) → allowed m k p s (pick p s) ≡ true) → (o : Option TypeRow) → slice_get d.types t ≡ o → PlaceShown ps p sh (show_row m d k pick default_of p t o sh)

@@ -78,7 +78,7 @@ parent_push ps qs whole e = absurd (false≢true e)
 parent_push ps qs (below p s) e = among-append_left ps qs p e
 
 pub not_whole : (p : Place) (s : Step) → below p s ≡ whole → ⊥
-not_whole p s e = let z : ◌≡◌ {A = ℕ} 0 1 = cc in omega arith
+not_whole p s e = cc
 
 pub Interned-grows : (ps : List Place) (q : Place) (s : Step) → Interned ps → among (whole ∷ ps) q ≡ true → among (whole ∷ ps) (below q s) ≡ false → Interned (ps ++ below q s ∷ [])
 Interned-grows ps q s ok listed new = record {

@@ -18,8 +18,9 @@ use Rattle.theory.specs.Theorems.{GoodFits}
 use Rattle.theory.proofs.Parts.{values_for, place_same}
 use Rattle.theory.proofs.Inhabiting.{all_at, type_filled}
 use Rattle.theory.proofs.Candidates.{agrees_here, same_given, row_of_sort, is_candidate}
-use Rattle.theory.proofs.Standing.{steps, choice_measured, Stood, Candid, stands_reached}
+use Rattle.theory.proofs.Standing.{steps, Stood, Candid, stands_reached}
 use Rattle.std.proofs.lemmas.Option.{none-some, same_Some}
+use Rattle.rules.proofs.Facts.{choice≢measured}
 
 -- ── how deep facts go ──
 
@@ -95,7 +96,7 @@ module _ (m : Measure) (d : Schema) (k : Knowledge) where
         go (built e us) h typed =
             ap (built_by c) h
             ∙ same_given x (eqb e c) (agrees_here (same_place p p) (gives x (eqb e c)) (place_same p) (agree e (is_candidate m d k p e (candid p s.type e us l h s.placed typed)).agrees))
-        go (measured r a) h typed = absurd (choice_measured r (sym row ∙ ap (slice_get d.types) (same_Some t s.type (sym placed ∙ s.placed)) ∙ typed.0))
+        go (measured r a) h typed = absurd (choice≢measured r (sym row ∙ ap (slice_get d.types) (same_Some t s.type (sym placed ∙ s.placed)) ∙ typed.0))
 
     test_holds : (p : Place) (t : ℤ) (s : ℕ) (x : Bool) → steps p < n → Stood m d k v p → and_then (place_type d p) (sort_of d) ≡ Some s
         → ((r : ℕ) (a : ℤ) → atom_agrees_all m p r a k ≡ true → atom_agrees m p r a (passes p t) x ≡ true) → passes_at m t (part_at v p) ≡ x
@@ -103,7 +104,7 @@ module _ (m : Measure) (d : Schema) (k : Knowledge) where
       where
         go : (u : Value) → part_at v p ≡ Some u → OfType m d st.type u → passes_at m t (part_at v p) ≡ x
         go (built e us) h typed =
-            absurd (choice_measured s (sym typed.0 ∙ row_of_sort (slice_get d.types st.type) s (sym (ap (λ o. and_then o (sort_of d)) st.placed) ∙ sort)))
+            absurd (choice≢measured s (sym typed.0 ∙ row_of_sort (slice_get d.types st.type) s (sym (ap (λ o. and_then o (sort_of d)) st.placed) ∙ sort)))
         go (measured r a) h typed =
             let left = steps_left n (steps p) l in
             let may : allowed m k p r a ≡ true = Grown-at n v g p (suc left.0) left.1 (measured r a) h in

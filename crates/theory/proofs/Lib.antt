@@ -1,5 +1,4 @@
 -- The lemmas of the theory, in the order of the argument.
-pub mod Facts
 pub mod SheetAnswers
 pub mod TreeAnswers
 pub mod Kept

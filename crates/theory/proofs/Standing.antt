@@ -4,22 +4,18 @@ use Rattle.std.specs.List.{slice_get}
 use Rattle.std.proofs.lemmas.Bool.{false≢true, and_parts, eq-eqb, cond-true}
 use Rattle.measure.specs.Measure.{Measure}
 use Rattle.guards.specs.declared.step.Step.{Step}
-use Rattle.rules.specs.declared.rows.TypeRow.{TypeRow}
-use Rattle.rules.specs.declared.rows.TypeRow.TheVariants.{Choice, Measured}
 use Rattle.rules.specs.Book.{Schema, fields_of}
 use Rattle.rules.specs.Garments.{Value, Values, built, measured, Place, whole, below, field_at, step_into, part_at, place_type, OfType, OfTypes}
 use Rattle.theory.specs.Knowledge.{Knowledge, candidate, only, reached}
 use Rattle.theory.proofs.Parts.{field_typed}
 use Rattle.theory.proofs.Candidates.{is_candidate, only-candidate, only_one}
 use Rattle.std.proofs.lemmas.Option.{same_Some}
+use Rattle.rules.proofs.Facts.{choice≢measured}
 
 -- the number of steps of a place
 abbrev pub steps : Place → ℕ
 steps whole = 0
 steps (below p s) = suc (steps p)
-
-pub choice_measured : (s : ℕ) → ◌≡◌ {A = Option TypeRow} (Some Choice) (Some (Measured s)) → ⊥
-choice_measured s e = let z : ◌≡◌ {A = ℕ} 0 1 = cc in omega arith
 
 pub is_some_lem : {A : Type 0} (o : Option A) → is_some o ≡ true → (a : A) × (o ≡ Some a)
 is_some_lem None e = absurd (false≢true e)
@@ -53,7 +49,7 @@ module _ (m : Measure) (d : Schema) (k : Knowledge) (v : Value) where
           (us, (h ∙ ap (λ x. Some (built x us)) same, subst (λ x. OfTypes m d (fields_of d x) us) same w.2))
       go (measured r a) h w =
           let one = is_candidate m d k p c (only-candidate m d k p c o) in
-          absurd (choice_measured r (sym one.choice ∙ ap (slice_get d.types) (same_Some one.type s.type (sym one.placed ∙ s.placed)) ∙ w.0))
+          absurd (choice≢measured r (sym one.choice ∙ ap (slice_get d.types) (same_Some one.type s.type (sym one.placed ∙ s.placed)) ∙ w.0))
 
   pub stands_reached : (n : ℕ) → Candid n → OfType m d 0 v → (p : Place) → steps p < n → reached m d k p ≡ true → Stood p
   stands_reached n all w whole l r = record { value = v; type = 0; found = refl; placed = refl; typed = w }

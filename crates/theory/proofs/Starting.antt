@@ -12,7 +12,7 @@ use Rattle.theory.specs.Theorems.{StartFitsAll}
 use Rattle.theory.proofs.Atoms.{any_to}
 use Rattle.theory.proofs.Inhabiting.{types_found, type_filled}
 use Rattle.theory.proofs.Candidates.{candidate_from}
-use Rattle.theory.proofs.Standing.{choice_measured}
+use Rattle.rules.proofs.Facts.{choice≢measured}
 
 module _ (m : Measure) (d : Schema) (law : Lawful m) where
   some_candidate : (p : Place) (t : ℕ) → place_type d p ≡ Some t → inhabited m d t ≡ true → slice_get d.types t ≡ Some Choice → (c : ℕ) × (candidate m d [] p c ≡ true)
@@ -21,7 +21,7 @@ module _ (m : Measure) (d : Schema) (law : Lawful m) where
       go : (v : Value) → OfType m d t v → (c : ℕ) × (candidate m d [] p c ≡ true)
       go (built c vs) w =
           (c, candidate_from m d [] p c record { type = t; placed = placed; choice = row; owner = w.1; fields = types_found m d law vs (fields_of d c) w.2; agrees = refl })
-      go (measured s a) w = absurd (choice_measured s (sym row ∙ w.0))
+      go (measured s a) w = absurd (choice≢measured s (sym row ∙ w.0))
 
   some_atom : (p : Place) (t s : ℕ) → inhabited m d t ≡ true → slice_get d.types t ≡ Some (Measured s) → (a : ℤ) × (allowed m [] p s a ≡ true)
   some_atom p t s h row =

@@ -16,9 +16,10 @@ use Rattle.theory.specs.Theorems.{TellsRight}
 use Rattle.theory.proofs.Atoms.{any_from}
 use Rattle.theory.proofs.Inhabiting.{types_found}
 use Rattle.theory.proofs.Candidates.{gives_same, row_of_sort, candidate_from}
-use Rattle.theory.proofs.Standing.{steps, choice_measured, Stood, Candid, found_only, stands_reached}
+use Rattle.theory.proofs.Standing.{steps, Stood, Candid, found_only, stands_reached}
 use Rattle.theory.proofs.Parts.{same_place_lem}
 use Rattle.std.proofs.lemmas.Option.{none-some, same_Some}
+use Rattle.rules.proofs.Facts.{choice≢measured}
 
 -- where a yes, or a no, is possible, the other is told only if it is not
 told_yes : (y n b : Bool) → decided y n ≡ Some b → y ≡ true → b ≡ true
@@ -109,7 +110,7 @@ module _ (m : Measure) (d : Schema) (k : Knowledge) (v : Value) (rule : Rule) (l
       row = row_of_sort (slice_get d.types st.type) s (sym (ap (λ o. and_then o (sort_of d)) st.placed) ∙ sort)
 
       go : (u : Value) → part_at v p ≡ Some u → OfType m d st.type u → passes_at m t (part_at v p) ≡ b
-      go (built c us) h w = absurd (choice_measured s (sym w.0 ∙ row))
+      go (built c us) h w = absurd (choice≢measured s (sym w.0 ∙ row))
       go (measured r a) h w = ap (passes_at m t) h ∙ subst (λ x. m.passes x t a ≡ b) (sym same) (by_answer (m.passes s t a) refl)
         where
           same : r ≡ s

@@ -1,5 +1,5 @@
 -- The run of a tree, executed in the world of a garment, gives the tree's answer.
-use Rattle.std.proofs.Common.{◌≡◌, cond, List, [], ◌∷◌, refl, ap, ◌∙◌, ap₂}
+use Rattle.std.proofs.Common.{◌≡◌, cond, List, [], ◌∷◌, refl, ap, ◌∙◌, ap₂, Bool, ◌&&◌, true, false}
 use Rattle.measure.specs.Measure.{Measure}
 use Rattle.guards.specs.Questions.{Rule}
 use Rattle.rules.specs.Garments.{Value, Place, whole, below, part_at, built_by, stands, all_stand, all_steps}
@@ -7,8 +7,11 @@ use Rattle.rules.specs.Sheets.{acts, lost, question}
 use Rattle.rules.specs.Trees.{Tree, Branches, leaf, fail, never, switch, test, ask, branch, otherwise, no_other, passes_at, tree_answer, branch_answer}
 use Rattle.theory.specs.Runs.{is_built, passes, says, Run, done, look, World, execute, world_of, stand_run, stand_all_run, tree_run, branches_run}
 use Rattle.theory.specs.Theorems.{RunsAnswer}
-use Rattle.theory.proofs.Facts.{cond_and}
 use Rattle.theory.proofs.SheetAnswers.{sheet_answers}
+
+cond_and : {A : Type 0} (a b : Bool) (x y : A) → cond a (cond b x y) y ≡ cond (a && b) x y
+cond_and true b x y = refl
+cond_and false b x y = refl
 
 module _ (m : Measure) (v : Value) (rule : Rule) where
   abbrev here : World
