@@ -1,9 +1,8 @@
 -- A release is read back, and bytes can say it.
-use Rattle.std.proofs.Common.{◌≡◌, ◌+◌, ◌≤◌, false, List, [], ◌++◌, map, length, Ok, ap, ◌∙◌, arith, w64, SFits}
+use Rattle.std.proofs.Common.{◌≡◌, ◌+◌, ◌≤◌, false, List, [], ◌++◌, map, length, Ok, ap, ◌∙◌, arith}
 use Rattle.std.specs.List.{AllByRecursion}
 use Rattle.std.proofs.lemmas.List.{length-append, length-map}
 use Rattle.measure.specs.Measure.{Measure, Lawful}
-use Rattle.pattern_file.specs.declared.entries.Entry.{Entry}
 use Rattle.pattern_file.specs.Contents.{max_entries}
 use Rattle.pattern_file.proofs.RoundTrip.{reads_back as encoded_back}
 use Rattle.rules.specs.Book.{Book, empty_book}
@@ -15,7 +14,7 @@ use Rattle.rules.proofs.Wider.{tables}
 use Rattle.rules.proofs.Entries.{joined_append, types_within, constructors_within, places_within, nodes_within}
 use Rattle.rules.proofs.Fitting.{Fit, orders_entries, tables_fit, EntryFits}
 use Rattle.rules.proofs.Kept.{SoundBook, Reached-sound}
-use Rattle.rules.proofs.Lists.{All-append, All-weaker}
+use Rattle.rules.proofs.Lists.{All-append}
 use Rattle.std.proofs.lemmas.List.Elements.{All-from_recursion}
 
 module _ (m : Measure) (b : Book) (s : SoundBook m b) where
