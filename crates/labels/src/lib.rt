@@ -1,7 +1,7 @@
 // A few labels, with tests that are sets of them.
 #![tactic(auto, using(crate::specs::Masks::chosen_and, crate::specs::Masks::chosen_not, crate::specs::Masks::chosen_all))]
 
-ghost use Rattle.std.specs.Prelude.{◌≡◌, ◌-◌, ◌^◌, ◌<◌, ◌≤◌, ◌&&◌, ℤ, nat_le};
+ghost use Rattle.std.specs.Prelude.{◌≡◌, ◌-◌, ◌^◌, ◌<◌, ◌≤◌, ◌&&◌, ℤ, pos, nat_le};
 ghost use Rattle.std.specs.Option.{option_map};
 ghost use Rattle.std.specs.Bool.{then_some};
 ghost use Rattle.measure.specs.Measure.{gives};
@@ -52,15 +52,34 @@ impl Labels {
         (1 << self.count) - 1
     }
 
+    // The set that a test is, if the number is one.
+    fn set_of(&self, sort: u16, test: i64) -> Option<u64>
+        ensures { option_map pos result ≡ then_some ((labels self.now.count).test sort test) test }
+    {
+        let set = u64::try_from(test).ok()?;
+        (self.serves(sort) && set <= self.all()).then_some(set)
+    }
+
+    // The label that an atom is, if the number is one.
+    fn label_of(&self, sort: u16, atom: i64) -> Option<u8>
+        ensures { option_map pos result ≡ then_some ((labels self.now.count).atom sort atom) atom }
+    {
+        let label = u8::try_from(atom).ok()?;
+        (self.serves(sort) && label < self.count).then_some(label)
+    }
+
+    // The labels that pass the test: none where the number is no test.
+    fn passing(&self, sort: u16, test: i64) -> u64
+        ensures { (n : ℤ) → masked sort self.now.count result n ≡ (labels self.now.count).passes sort test n }
+    {
+        self.set_of(sort, test).unwrap_or(0)
+    }
+
     // The labels that give the wanted answer to the test.
     fn answering(&self, sort: u16, ask: Ask) -> u64
         ensures { (n : ℤ) → masked sort self.now.count result n ≡ ((labels self.now.count).atom sort n && gives ask.wanted ((labels self.now.count).passes sort ask.test n)) }
     {
-        let passing = if self.is_test(sort, ask.test) {
-            ask.test as u64
-        } else {
-            0
-        };
+        let passing = self.passing(sort, ask.test);
         if ask.wanted { passing } else { !passing }
     }
 }
@@ -83,15 +102,18 @@ impl Kind for Labels {
     }
 
     fn is_atom(&self, sort: u16, atom: i64) -> bool {
-        self.serves(sort) && (0..i64::from(self.count)).contains(&atom)
+        self.label_of(sort, atom).is_some()
     }
 
     fn is_test(&self, sort: u16, test: i64) -> bool {
-        self.serves(sort) && 0 <= test && test as u64 <= self.all()
+        self.set_of(sort, test).is_some()
     }
 
     fn passes(&self, sort: u16, test: i64, atom: i64) -> bool {
-        self.is_test(sort, test) && self.is_atom(sort, atom) && has(test as u64, atom as u8)
+        match (self.set_of(sort, test), self.label_of(sort, atom)) {
+            (Some(set), Some(label)) => has(set, label),
+            _ => false,
+        }
     }
 
     fn whole(&self, sort: u16) -> Mask {

@@ -28,6 +28,7 @@ fn entry_count(bytes: &[u8]) -> Result<usize, FormatFault>
     let [a, b, c, d, entries @ ..] = bytes else {
         return Err(FormatFault::Length);
     };
+    // `as`: Rust has no `From<u32> for usize`
     let count = u32::from_le_bytes([*a, *b, *c, *d]) as usize;
     if count > MOST_ENTRIES {
         return Err(FormatFault::Length);

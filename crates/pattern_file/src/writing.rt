@@ -68,7 +68,8 @@ pub fn write_file(out: &mut [u8], entries: &[Entry]) -> Result<usize, WriteRefus
     if out.len() < size {
         return Err(WriteRefusal::OutTooShort);
     }
-    out[0..4].copy_from_slice(&(entries.len() as u32).to_le_bytes());
+    // `as`: at most 5,000, since there is a `size`
+    out[..4].copy_from_slice(&(entries.len() as u32).to_le_bytes());
     put_entries(&mut out[4..], entries);
     Ok(size)
 }

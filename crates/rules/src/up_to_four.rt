@@ -34,13 +34,14 @@ impl UpToFour {
         ensures fits { IsSome result ↔ (length numbers.now ≤ 4) }
         ensures held { IfSome result (λ u. u ≡ numbers.now) }
     {
-        if numbers.len() > 4 {
+        let count = u8::try_from(numbers.len()).ok()?;
+        if count > 4 {
             return None;
         }
         let mut held = [0; 4];
         held[..numbers.len()].copy_from_slice(numbers);
         Some(UpToFour {
-            count: numbers.len() as u8,
+            count,
             numbers: held,
         })
     }
@@ -56,7 +57,7 @@ impl UpToFour {
     pub fn len(&self) -> usize
         ensures { result ≡ length self.now }
     {
-        self.count as usize
+        usize::from(self.count)
     }
 
     // Whether there is no number.
