@@ -157,6 +157,7 @@ impl Eq for WrittenQuestion<'_> {
 }
 
 /// Whether a question that is written and read again is that question: always.
+// It keeps its answer, since it does what the law that it carries is about.
 #[tactic(auto, using(crate::proofs::Listing::reads_same, crate::proofs::Listing::written_form))]
 pub fn reads_back(question: &WrittenQuestion<'_>) -> bool
     ensures always { result ≡ true }

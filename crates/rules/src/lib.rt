@@ -1,5 +1,6 @@
 // The subject's rules: the rows that a workbook holds, and in specs/ the meaning of everything.
-// The functions of matching, places, examples and round_trip name the theorems that make the definitions believable.
+// The functions of matching, places, examples and round_trip name the theorems that make the definitions believable,
+// one each, since one generic function would want a type for each statement.
 #![tactic(auto)]
 
 pub mod examples;
