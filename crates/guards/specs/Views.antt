@@ -7,6 +7,6 @@ use Rattle.guards.specs.declared.written.WrittenPlace.{WrittenPlace}
 abbrev pub question_of : WrittenQuestion → Question
 question_of w = question_in w.numbers.now
 
--- the place that a view means; a number left over is no step
+-- the place that a view means
 abbrev pub place_of : WrittenPlace → Steps
 place_of p = steps_in p.numbers.now

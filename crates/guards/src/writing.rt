@@ -18,7 +18,7 @@ pub fn write_place(out: &mut [u16], steps: &[Step]) -> Option<usize>
         return None;
     }
     out[0] = count;
-    // by index: after a borrow of pieces of `out` a proof knows its length and not its numbers
+    // by index: after `iter_mut` or `chunks_mut` a proof knows the length of `out` and not its numbers
     for (i, step) in steps.iter().enumerate() {
         out[2 * i + 1] = step.constructor;
         out[2 * i + 2] = step.field;

@@ -126,7 +126,7 @@ impl<'a> WrittenQuestion<'a> {
     }
 }
 
-// Equal questions are those with equal numbers.
+// Equal questions are those with equal numbers. By hand: a derived `==` would speak of private numbers, not of questions.
 impl PartialEq for WrittenQuestion<'_> {
     ghost use Rattle.std.specs.Prelude.{Decides};
     ghost use Rattle.std.specs.Cmp.{on_per, partial_equiv_from_equiv};
@@ -163,8 +163,5 @@ pub fn reads_back(question: &WrittenQuestion<'_>) -> bool
     ensures always { result ≡ true }
     ensures law { WrittenForm }
 {
-    match WrittenQuestion::read(question.numbers()) {
-        Some(back) => back == *question,
-        None => false,
-    }
+    WrittenQuestion::read(question.numbers()) == Some(*question)
 }
