@@ -12,6 +12,7 @@ pub struct Ask {
 }
 
 impl Ask {
+    /// The test with the answer wanted of it.
     pub fn new(test: i64, wanted: bool) -> Ask
         ensures { result ≡ record { test = test; wanted = wanted } }
     {

@@ -4,6 +4,7 @@ ghost use Rattle.rules.specs.Refusals.{refusal_number};
 
 use pattern_file::Placed;
 
+/// A ground on which calls are refused, with its number.
 #[derive(Clone, Copy, PartialEq, Eq, Debug)]
 pub enum Refusal {
     PassOut = 1,
@@ -33,5 +34,5 @@ impl From<Refusal> for u8 {
     }
 }
 
-// Where and why reading a file stopped.
+/// Where and why reading a file stopped.
 pub type ReadFault = Placed<Refusal>;

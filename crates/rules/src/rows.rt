@@ -4,21 +4,21 @@ use crate::up_to_four::UpToFour;
 use guards::Step;
 use measure::Ask;
 
-// A type: a choice between constructors, or measured by atoms of a sort.
+/// A type: a choice between constructors, or measured by atoms of a sort.
 #[derive(Clone, Copy, PartialEq, Eq, Debug)]
 pub enum TypeRow {
     Choice,
     Measured(u16),
 }
 
-// A constructor: the type that it builds, and the types of its fields.
+/// A constructor: the type that it builds, and the types of its fields.
 #[derive(Clone, Copy, PartialEq, Eq, Debug)]
 pub struct ConstructorRow {
     pub owner: u16,
     pub fields: UpToFour,
 }
 
-// A pattern, over earlier patterns.
+/// A pattern, over earlier patterns.
 #[derive(Clone, Copy, PartialEq, Eq, Debug)]
 pub enum PatternRow {
     // everything of a type
@@ -33,7 +33,7 @@ pub enum PatternRow {
     Gauge { ask: Ask, inner: u16 },
 }
 
-// A clause: a pattern, a guard if any, and an action.
+/// A clause: a pattern, a guard if any, and an action.
 #[derive(Clone, Copy, PartialEq, Eq, Debug)]
 pub struct ClauseRow {
     pub pattern: u16,
@@ -41,21 +41,21 @@ pub struct ClauseRow {
     pub action: u16,
 }
 
-// A place: one step below an earlier one. Place 0, the whole garment, has no row.
+/// A place: one step below an earlier one. Place 0, the whole garment, has no row.
 #[derive(Clone, Copy, PartialEq, Eq, Debug)]
 pub struct PlaceRow {
     pub parent: u16,
     pub step: Step,
 }
 
-// A branch of a switch: the node for a constructor.
+/// A branch of a switch: the node for a constructor.
 #[derive(Clone, Copy, PartialEq, Eq, Debug)]
 pub struct PairRow {
     pub constructor: u16,
     pub node: u16,
 }
 
-// A node of a tree, over earlier nodes.
+/// A node of a tree, over earlier nodes.
 #[derive(Clone, Copy, PartialEq, Eq, Debug)]
 pub enum NodeRow {
     Leaf {
@@ -85,8 +85,8 @@ pub enum NodeRow {
     },
 }
 
-// An entry of a garment, of type `ty`: built (mark 0, the head is a constructor) or measured (mark 1, the head is an atom).
-// Its numbers are plain, since users hand entries over: any that are wrong, unused ones too, must be sayable to be refused.
+/// An entry of a garment, of type `ty`: built (mark 0, the head is a constructor) or measured (mark 1, the head is an atom).
+/// Its numbers are plain, since users hand entries over: any that are wrong, unused ones too, must be sayable to be refused.
 #[derive(Clone, Copy, PartialEq, Eq, Debug)]
 pub struct GarmentEntry {
     pub ty: u32,

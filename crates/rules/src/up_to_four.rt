@@ -1,9 +1,10 @@
-// Up to four numbers, held in the value itself. A contract sees them as their list.
+// Up to four numbers, held in the value itself: rows are `Copy` and ask for no memory. A contract sees them as their list.
 ghost use Rattle.std.specs.Prelude.{◌≡◌, ◌≤◌, ◌↔◌, ◌==◌, length, IsSome, IfSome};
 
 use std::marker::Model;
 
-// The first `count` of `numbers`; the others are 0.
+/// The first `count` of `numbers`; the others are 0.
+// An array with its count, since the kit's `ArrayVec` is not `Copy`.
 #[derive(Clone, Copy, PartialEq, Eq, Debug)]
 pub struct UpToFour {
     count: u8,
@@ -29,7 +30,7 @@ impl Model for UpToFour {
 }
 
 impl UpToFour {
-    // These numbers, or nothing where they are more than four.
+    /// These numbers, or nothing where they are more than four.
     pub fn new(numbers: &[u16]) -> Option<UpToFour>
         ensures fits { IsSome result ↔ (length numbers.now ≤ 4) }
         ensures held { IfSome result (λ u. u ≡ numbers.now) }
@@ -46,21 +47,21 @@ impl UpToFour {
         })
     }
 
-    // The numbers as a slice.
+    /// The numbers as a slice.
     pub fn as_slice(&self) -> &[u16]
         ensures { result.now ≡ self.now }
     {
         &self.numbers[..self.len()]
     }
 
-    // How many numbers there are.
+    /// How many numbers there are.
     pub fn len(&self) -> usize
         ensures { result ≡ length self.now }
     {
         usize::from(self.count)
     }
 
-    // Whether there is no number.
+    /// Whether there is no number.
     pub fn is_empty(&self) -> bool
         ensures { result ≡ (length self.now == 0) }
     {
