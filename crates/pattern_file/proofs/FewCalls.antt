@@ -1,5 +1,5 @@
 -- There are no more calls than entries.
-use Rattle.std.proofs.Common.{◌≡◌, ℕ, suc, ◌+◌, ◌≤◌, Bool, true, false, cond, eqb, leb, List, [], ◌∷◌, ◌++◌, length, take, drop, ℤ, Some, None, Option, refl, arith}
+use Rattle.std.proofs.Common.{◌≡◌, ℕ, suc, ◌+◌, ◌≤◌, Bool, true, false, cond, eqb, leb, List, [], ◌∷◌, ◌++◌, length, take, drop, ℤ, Some, None, Option, refl, ap, arith}
 use Rattle.std.proofs.lemmas.Bool.{and_parts, leb-true}
 use Rattle.std.proofs.lemmas.List.{length-take}
 use Rattle.pattern_file.specs.declared.names.CallName.{CallName}
@@ -7,7 +7,10 @@ use Rattle.pattern_file.specs.declared.entries.Entry.{Entry}
 use Rattle.pattern_file.specs.Readers.{call_or}
 use Rattle.pattern_file.specs.Contents.{Contents, ending, calls_from, calls_in, entries_in, entries_of, announced, well_sized, contents}
 use Rattle.pattern_file.specs.Names.{name_of}
-use Rattle.pattern_file.proofs.Walking.{length-entries_in}
+
+length-entries_in : (t b : List ℕ) → length (entries_in t b) ≡ length t
+length-entries_in [] b = refl
+length-entries_in (x ∷ t) b = ap suc (length-entries_in t (drop 8 b))
 
 few_named : (o : Option CallName) (n : ℕ) (z : ℤ) (put : List ℤ) (c : Contents) (m : ℕ) → length c.calls ≤ m → length (call_or o n z put c).calls ≤ suc m
 few_named (Some x) n z put c m h = omega arith

@@ -1,7 +1,6 @@
 -- What the reader finds at an entry is what comes first there.
-use Rattle.std.proofs.Common.{◌≡◌, ℕ, ◌+◌, ◌-◌, ◌*◌, ◌/◌, ◌<◌, ◌≤◌, List, length, get_or, take, drop, ℤ, Some, None, Ok, Err, Option, sym, refl, ap, ◌∙◌, arith}
+use Rattle.std.proofs.Common.{◌≡◌, ℕ, ◌+◌, ◌-◌, ◌<◌, ◌≤◌, List, [], length, get_or, take, drop, ℤ, Some, None, Ok, Err, Option, sym, refl, ap, ◌∙◌, arith}
 use Rattle.std.specs.List.{AllWithin}
-use Rattle.std.proofs.lemmas.List.{length-drop, length-take-le}
 use Rattle.pattern_file.specs.declared.faults.FormatFault.{FormatFault}
 use Rattle.pattern_file.specs.declared.faults.FormatFault.TheVariants.{UnknownTag, NumbersLeft}
 use Rattle.pattern_file.specs.declared.placed.Placed.{Placed}
@@ -9,23 +8,13 @@ use Rattle.pattern_file.specs.declared.names.CallName.{CallName}
 use Rattle.pattern_file.specs.declared.names.CallName.TheVariants as name
 use Rattle.pattern_file.specs.declared.calls.Parts.{Parts}
 use Rattle.pattern_file.specs.declared.calls.Call.{Call}
-use Rattle.pattern_file.specs.Bytes.{signed_at, numbers_in}
+use Rattle.pattern_file.specs.Bytes.{signed_number, signed_numbers}
 use Rattle.pattern_file.specs.Calls.{numbers_put, named}
 use Rattle.pattern_file.specs.Contents.{Contents, finished, stopped, first, after}
 use Rattle.pattern_file.specs.Faults.{fault_at, placed}
 use Rattle.pattern_file.specs.Names.{name_of, known}
 use Rattle.pattern_file.specs.Readers.{call_or, rest_at, run_at, call_at, taken_at}
-use Rattle.pattern_file.proofs.ByteNumbers.{numbers_in-take}
 use Rattle.pattern_file.proofs.Walking.{run_put, run_left, run_done, run_call}
-
--- the part of the number bytes from entry s to entry e
-pub part_numbers : (b : List ℕ) (s e : ℕ) → s ≤ e → 8 * e ≤ length b
-    → numbers_in (length (take (8 * e - 8 * s) (drop (8 * s) b)) / 8) (take (8 * e - 8 * s) (drop (8 * s) b)) ≡ numbers_in (e - s) (drop (8 * s) b)
-part_numbers b s e h k =
-    let part = take (8 * e - 8 * s) (drop (8 * s) b) in
-    let size : length part ≡ 8 * e - 8 * s = length-take-le (8 * e - 8 * s) (drop (8 * s) b) (omega (arith, length-drop (8 * s) b)) in
-    let many : length part / 8 ≡ e - s = omega arith in
-    ap (λ (n : ℕ). numbers_in n part) many ∙ numbers_in-take (e - s) (drop (8 * s) b) (8 * e - 8 * s) (omega arith)
 
 call_at_named : (p : Parts) (e : ℕ) (n : CallName) → call_at e (named p n) ≡ record { entry = e; name = n; own = p.own; put = numbers_put p.put }
 call_at_named p e name.«Type» = refl
@@ -45,12 +34,12 @@ call_at_named p e name.Test = refl
 call_at_named p e name.Ask = refl
 
 -- what a call that was made means
-pub taken : (p : Parts) (b : List ℕ) (i e : ℕ) (n : CallName) (x : Call) → x ≡ named p n → p.own ≡ signed_at b (8 * e) → numbers_put p.put ≡ numbers_in (e - i) (drop (8 * i) b)
+pub taken : (p : Parts) (b : List (List ℕ)) (i e : ℕ) (n : CallName) (x : Call) → x ≡ named p n → p.own ≡ signed_number (get_or b e []) → numbers_put p.put ≡ signed_numbers (take (e - i) (drop i b))
     → call_at e x ≡ taken_at b i e n
 taken p b i e n x q own put =
     ap (call_at e) q ∙ call_at_named p e n
     ∙ ap (λ (z : ℤ). record { entry = e; name = n; own = z; put = numbers_put p.put }) own
-    ∙ ap (λ (zs : List ℤ). record { entry = e; name = n; own = signed_at b (8 * e); put = zs }) put
+    ∙ ap (λ (zs : List ℤ). record { entry = e; name = n; own = signed_number (get_or b e []); put = zs }) put
 
 -- whether a tag is known
 known_name : (o : Option CallName) (e : ℕ) (n : CallName) → Ok n ≡ placed (known o) e → o ≡ Some n
@@ -62,24 +51,24 @@ known_fault (Some m) e f q = cc
 known_fault None e f q = (refl, cc)
 
 -- one turn of the reader, past the numbers that are put from entry i to entry e: what it hands out first, and what is then to come
-module _ (t b : List ℕ) (i e : ℕ) (l : i ≤ e) (m : e ≤ length t) (put : AllWithin (λ x. x ≡ 0) (drop i t) 0 (e - i)) where
+module _ (t : List ℕ) (b : List (List ℕ)) (same : length b ≡ length t) (i e : ℕ) (l : i ≤ e) (m : e ≤ length t) (put : AllWithin (λ x. x ≡ 0) (drop i t) 0 (e - i)) where
   run : run_at t b i e ≡ rest_at t b i
-  run = run_put t b (e - i) i e (omega arith) m put
+  run = run_put t b same (e - i) i e (omega arith) m put
 
   stays : (c : Contents) → run_at t b i e ≡ c → after c ≡ c → (first c ≡ first (rest_at t b i)) × (rest_at t b i ≡ after (rest_at t b i))
   stays c q s = let coming : c ≡ rest_at t b i = sym q ∙ run in (ap first coming, sym coming ∙ sym s ∙ ap after coming)
 
   -- the end, with numbers left over
   pub left_over : length t ≤ e → i < e → (Err (fault_at e NumbersLeft) ≡ first (rest_at t b i)) × (rest_at t b i ≡ after (rest_at t b i))
-  left_over h n = stays (stopped e NumbersLeft) (run_left t b i e h n) refl
+  left_over h n = stays (stopped e NumbersLeft) (run_left t b same i e h n m) refl
 
   -- the end, with none
   pub done : length t ≤ e → e ≤ i → (Ok None ≡ first (rest_at t b i)) × (rest_at t b i ≡ after (rest_at t b i))
-  done h n = stays finished (run_done t b i e h n) refl
+  done h n = stays finished (run_done t b same i e h n) refl
 
   module _ (h : e < length t) (ne : get_or t e 0 ≡ 0 → ⊥) where
-    named_is : (o : Option CallName) → name_of (get_or t e 0) ≡ o → run_at t b i e ≡ call_or o e (signed_at b (8 * e)) (numbers_in (e - i) (drop (8 * i) b)) (rest_at t b (e + 1))
-    named_is o q = run_call t b i e h ne ∙ ap (λ (m : Option CallName). call_or m e (signed_at b (8 * e)) (numbers_in (e - i) (drop (8 * i) b)) (rest_at t b (e + 1))) q
+    named_is : (o : Option CallName) → name_of (get_or t e 0) ≡ o → run_at t b i e ≡ call_or o e (signed_number (get_or b e [])) (signed_numbers (take (e - i) (drop i b))) (rest_at t b (e + 1))
+    named_is o q = run_call t b same i e h ne ∙ ap (λ (m : Option CallName). call_or m e (signed_number (get_or b e [])) (signed_numbers (take (e - i) (drop i b))) (rest_at t b (e + 1))) q
 
     -- a call
     pub called : (n : CallName) → Ok n ≡ placed (known (name_of (get_or t e 0))) e → (Ok (Some (taken_at b i e n)) ≡ first (rest_at t b i)) × (rest_at t b (e + 1) ≡ after (rest_at t b i))

@@ -1,5 +1,5 @@
 -- Numbers as bytes, little end first.
-use Rattle.std.specs.Prelude.{ℕ, zero, suc, ◌+◌, ◌*◌, ◌/◌, ◌%◌, List, [], ◌∷◌, length, take, drop, ℤ}
+use Rattle.std.specs.Prelude.{ℕ, zero, suc, ◌+◌, ◌*◌, ◌/◌, ◌%◌, List, [], ◌∷◌, map, take, drop, ℤ}
 use Rattle.std.proofs.Common.{to_z, of_z}
 use Rattle.std.specs.Int.{w64}
 
@@ -21,11 +21,10 @@ signed_at b i = to_z w64 (value_of (take 8 (drop i b)))
 unfoldable pub signed_bytes : ℤ → List ℕ
 signed_bytes z = bytes_of 8 (of_z w64 z)
 
--- the first n signed numbers of the bytes b
-abbrev pub numbers_in : ℕ → List ℕ → List ℤ
-numbers_in zero b = []
-numbers_in (suc n) b = signed_at b 0 ∷ numbers_in n (drop 8 b)
+-- the signed number that eight bytes write
+abbrev pub signed_number : List ℕ → ℤ
+signed_number b = signed_at b 0
 
--- the signed numbers of the bytes b
-abbrev pub whole_numbers : List ℕ → List ℤ
-whole_numbers b = numbers_in (length b / 8) b
+-- the signed numbers that pieces of eight bytes write
+abbrev pub signed_numbers : List (List ℕ) → List ℤ
+signed_numbers pieces = map signed_number pieces

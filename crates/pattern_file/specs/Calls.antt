@@ -9,16 +9,16 @@ use Rattle.pattern_file.specs.declared.numbers.Numbers.{Numbers}
 use Rattle.pattern_file.specs.declared.calls.Parts.{Parts}
 use Rattle.pattern_file.specs.declared.calls.Call.{Call}
 use Rattle.pattern_file.specs.declared.calls.Call.TheVariants.{«Type», Constructor, Any, Bind, Build, Either, Gauge, Clause, Place, Leaf, Fail, Never, Switch, Test, Ask}
-use Rattle.pattern_file.specs.Bytes.{whole_numbers}
+use Rattle.pattern_file.specs.Bytes.{signed_numbers}
 use Rattle.pattern_file.specs.Names.{text_of}
 
--- the numbers of a part of the file
+-- the numbers of a run of eight bytes each
 abbrev pub numbers_put : PutNumbers → List ℤ
-numbers_put p = whole_numbers p.bytes.now
+numbers_put p = signed_numbers p.numbers.now
 
 -- the numbers that are still to come
 abbrev pub numbers_left : Numbers → List ℤ
-numbers_left n = whole_numbers n.bytes.now
+numbers_left n = signed_numbers n.numbers.now
 
 -- the call of a name
 abbrev pub named : Parts → CallName → Call

@@ -8,17 +8,17 @@ use crate::calls::{Call, Parts, PlacedCall};
 use crate::entries::MOST_ENTRIES;
 use crate::faults::{FileFault, FormatFault};
 use crate::names::CallName;
-use crate::numbers::{PutNumbers, signed_at};
+use crate::numbers::PutNumbers;
 use crate::placed::{AtEntry, Placed};
 
-// The tags and the number bytes of a file, and the entry from which it is still to be read.
+// The tags of a file and the eight bytes of each number, and the entry from which it is still to be read.
 // Two slices, since the file has all tags before all numbers, and nothing is copied.
 #[derive(Drop)]
 pub(crate) struct Unread<'a> {
     tags: &'a [u8],
-    numbers: &'a [u8],
+    numbers: &'a [[u8; 8]],
     at: usize,
-    ghost whole: { (length numbers.now ≡ 8 * length tags.now) × (at ≤ length tags.now) × (length tags.now ≤ 5000) },
+    ghost whole: { (length numbers.now ≡ length tags.now) × (at ≤ length tags.now) × (length tags.now ≤ 5000) },
 }
 
 // The number of entries of a file whose length is right.
@@ -48,9 +48,10 @@ impl<'a> Unread<'a> {
         ensures { pending result ≡ contents bytes.now }
     {
         let count = entry_count(bytes)?;
+        let (numbers, _) = bytes[4 + count..].as_chunks::<8>();
         Ok(Unread {
             tags: &bytes[4..4 + count],
-            numbers: &bytes[4 + count..],
+            numbers,
             at: 0,
         })
     }
@@ -68,14 +69,14 @@ impl<'a> Unread<'a> {
     }
 
     // The call of a name at `entry`, with the numbers put for it.
-    #[tactic(auto, using(crate::proofs::Finding::taken, crate::proofs::Finding::part_numbers, crate::proofs::ByteNumbers::signed_passed))]
+    #[tactic(auto, using(crate::proofs::Finding::taken, crate::proofs::ByteNumbers::number_read))]
     fn call_at(&self, name: CallName, entry: usize) -> Call<'a>
         requires { (self.now.at ≤ entry) × (entry < length self.now.tags.now) }
         ensures { call_at entry result ≡ taken_at self.now.numbers.now self.now.at entry name }
     {
-        let own = signed_at(self.numbers, 8 * entry);
+        let own = i64::from_le_bytes(self.numbers[entry]);
         let put = PutNumbers {
-            bytes: &self.numbers[8 * self.at..8 * entry],
+            numbers: &self.numbers[self.at..entry],
         };
         Call::new(name, Parts { own, put })
     }
