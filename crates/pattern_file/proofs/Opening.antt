@@ -1,5 +1,5 @@
 -- A file that is opened is still to be read from its first entry on.
-use Rattle.std.proofs.Common.{◌≡◌, ℕ, zero, suc, ◌+◌, ◌-◌, ◌/◌, Bool, true, false, cond, List, [], ◌∷◌, length, take, drop, ℤ, Some, None, Ok, Err, sym, refl, ap, ◌∙◌, arith}
+use Rattle.std.proofs.Common.{◌≡◌, ℕ, zero, suc, ◌+◌, ◌-◌, ◌/◌, Bool, true, false, cond, List, [], ◌∷◌, length, nat_le, ◌==◌, take, drop, ℤ, Some, None, Ok, Err, sym, refl, ap, ◌∙◌, arith}
 use Rattle.std.proofs.lemmas.Bool.{and_parts, eqb-true}
 use Rattle.std.proofs.lemmas.List.{length-drop, length-take, take_rest}
 use Rattle.std.specs.Simd.{first_chunks}
@@ -7,7 +7,7 @@ use Rattle.pattern_file.specs.declared.entries.Entry.{Entry}
 use Rattle.pattern_file.specs.declared.faults.FormatFault.{FormatFault}
 use Rattle.pattern_file.specs.declared.faults.FormatFault.TheVariants.{Length}
 use Rattle.pattern_file.specs.Bytes.{signed_number}
-use Rattle.pattern_file.specs.Contents.{calls_in, calls_of, stopped, contents, entries_of, entries_in, announced, well_sized, file_length}
+use Rattle.pattern_file.specs.Contents.{calls_in, calls_of, stopped, contents, entries_of, entries_in, announced, well_sized, file_length, max_entries}
 use Rattle.pattern_file.specs.Readers.{entries_with, rest_at}
 use Rattle.pattern_file.proofs.ByteNumbers.{signed_at-take}
 

@@ -61,8 +61,8 @@ impl Iterator for Numbers<'_> {
 
     #[tactic(auto, using(crate::proofs::ByteNumbers::number_read))]
     fn next(&mut self) -> Option<i64> {
-        let (bytes, others) = self.numbers.split_first()?;
+        let (first, others) = self.numbers.split_first()?;
         self.numbers = others;
-        Some(i64::from_le_bytes(*bytes))
+        Some(i64::from_le_bytes(*first))
     }
 }

@@ -22,14 +22,13 @@ pub(crate) struct Unread<'a> {
 }
 
 // The number of entries of a file whose length is right.
+#[tactic(auto, using(crate::proofs::ByteNumbers::value4))]
 fn entry_count(bytes: &[u8]) -> Result<usize, FormatFault>
     ensures { result ≡ (if well_sized bytes.now then Fine (announced bytes.now) else Refused BadLength) }
 {
-    let [a, b, c, d, entries @ ..] = bytes else {
-        return Err(FormatFault::Length);
-    };
+    let (count, entries) = bytes.split_first_chunk::<4>().ok_or(FormatFault::Length)?;
     // `as`: Rust has no `From<u32> for usize`
-    let count = u32::from_le_bytes([*a, *b, *c, *d]) as usize;
+    let count = u32::from_le_bytes(*count) as usize;
     if count > MOST_ENTRIES {
         return Err(FormatFault::Length);
     }
@@ -62,10 +61,8 @@ impl<'a> Unread<'a> {
         ensures bound { (self.now.at ≤ result) × (result ≤ length self.now.tags.now) }
         ensures call { result < length self.now.tags.now → slice_index self.now.tags.now result ≢ 0 }
     {
-        match self.tags[self.at..].iter().position(|&tag| tag != 0) {
-            Some(put) => self.at + put,
-            None => self.tags.len(),
-        }
+        let tags = &self.tags[self.at..];
+        self.at + tags.iter().position(|&tag| tag != 0).unwrap_or(tags.len())
     }
 
     // The call of a name at `entry`, with the numbers put for it.
