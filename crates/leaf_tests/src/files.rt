@@ -1,8 +1,8 @@
 // Pattern files: a short one, files at the limits, and damaged files.
 use file_listing::listing;
 use pattern_file::{
-    AtEntry, CallName, Entry, FileFault, FormatFault, Placed, Reader, WriteRefusal, count_calls,
-    write_file,
+    AtEntry, CallName, Entry, FileFault, FormatFault, MOST_BYTES, Placed, Reader, WriteRefusal,
+    count_calls, write_file,
 };
 use std::alloc::Global;
 use std::test::Fail;
@@ -19,7 +19,7 @@ const FIVE: [Entry; 5] = [
 const FAIL_NODE: Entry = Entry { tag: 11, number: 0 };
 
 fn file_of(heap: Global, entries: &[Entry]) -> Result<Vec<u8>, Fail> {
-    let mut bytes = vec![in heap; 0u8; 45_004]?;
+    let mut bytes = vec![in heap; 0u8; MOST_BYTES]?;
     let length = write_file(bytes.as_mut_slice(), entries)?;
     bytes.truncate(length);
     Ok(bytes)

@@ -21,15 +21,6 @@ value_more n b i j e =
     ∙ ap (λ (x : ℕ). x + 256 * value_of (take n (drop 1 (drop i b)))) (get_or-drop i b 0 0 ∙ ap (λ (k : ℕ). get_or b k 0) (omega arith))
     ∙ ap (λ (xs : List ℕ). get_or b i 0 + 256 * value_of (take n xs)) (drop-drop 1 i b ∙ ap (λ (k : ℕ). drop k b) (sym e))
 
--- four bytes, as the library reads them
-pub value4 : (b : List ℕ) → value_of (take 4 b) ≡ get_or b 0 0 + get_or b 1 0 * 256 + get_or b 2 0 * 65536 + get_or b 3 0 * 16777216
-value4 b =
-    let v0 = value_more 3 b 0 1 refl in
-    let v1 = value_more 2 b 1 2 refl in
-    let v2 = value_more 1 b 2 3 refl in
-    let v3 = value_more 0 b 3 4 refl in
-    omega arith
-
 -- eight bytes, as the library reads them
 value8 : (b : List ℕ)
     → value_of (take 8 b) ≡ get_or b 0 0 + get_or b 1 0 * 256 + get_or b 2 0 * 65536 + get_or b 3 0 * 16777216 + get_or b 4 0 * 4294967296 + get_or b 5 0 * 1099511627776 + get_or b 6 0 * 281474976710656 + get_or b 7 0 * 72057594037927936

@@ -3,6 +3,9 @@
 // The most entries that a file may have.
 pub(crate) const MOST_ENTRIES: usize = 5_000;
 
+/// The most bytes that a file may have: four for the number of its entries, and nine for each entry.
+pub const MOST_BYTES: usize = 4 + 9 * MOST_ENTRIES;
+
 // Tag 0 puts its number on the list; a tag from 1 to 15 makes a call that takes the list.
 #[derive(Clone, Copy, PartialEq, Eq, Debug)]
 pub struct Entry {

@@ -12,7 +12,7 @@ mod unread;
 pub mod writing;
 
 pub use calls::{Call, Parts, PlacedCall};
-pub use entries::Entry;
+pub use entries::{Entry, MOST_BYTES};
 pub use faults::{FileFault, FormatFault};
 pub use names::CallName;
 pub use numbers::{Numbers, PutNumbers};

@@ -22,7 +22,6 @@ pub(crate) struct Unread<'a> {
 }
 
 // The number of entries of a file whose length is right.
-#[tactic(auto, using(crate::proofs::ByteNumbers::value4))]
 fn entry_count(bytes: &[u8]) -> Result<usize, FormatFault>
     ensures { result ≡ (if well_sized bytes.now then Fine (announced bytes.now) else Refused BadLength) }
 {

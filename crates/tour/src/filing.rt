@@ -1,6 +1,6 @@
 // A sheet and a tree as the entries of a pattern file, which is written, read again and listed.
 use file_listing::listing;
-use pattern_file::{Entry, write_file};
+use pattern_file::{Entry, MOST_BYTES, write_file};
 
 // A garment may have a length: the sheet has an action for lengths of at most 200, the tree for lengths of at most 199.
 const SAMPLE: [Entry; 31] = [
@@ -44,7 +44,7 @@ const SAMPLE: [Entry; 31] = [
 ];
 
 pub fn show(rt: &HostRuntime) -> anyhow::Result<()> {
-    let mut bytes = vec![in rt.alloc(); 0u8; 45_004]?;
+    let mut bytes = vec![in rt.alloc(); 0u8; MOST_BYTES]?;
     let length = write_file(bytes.as_mut_slice(), &SAMPLE)?;
     println!(rt; "a sheet and a tree as a file of {length} bytes:")?;
     bytes.truncate(length);
