@@ -12,7 +12,7 @@ use Rattle.pattern_file.specs.declared.calls.Call.TheVariants.{«Type», Constru
 use Rattle.pattern_file.specs.Bytes.{signed_numbers}
 use Rattle.pattern_file.specs.Names.{text_of}
 
--- the numbers of a run of eight bytes each
+-- the numbers put before a call
 abbrev pub numbers_put : PutNumbers → List ℤ
 numbers_put p = signed_numbers p.numbers.now
 

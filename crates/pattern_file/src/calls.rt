@@ -7,14 +7,15 @@ use crate::numbers::PutNumbers;
 use crate::placed::Placed;
 use std::fmt;
 
-// What every call has.
+/// What every call has.
 #[derive(Clone, Copy)]
 pub struct Parts<'a> {
     pub own: i64,
     pub put: PutNumbers<'a>,
 }
 
-// Each case has its own number and its run of put numbers, so that who carries a call out matches once; `CallName` is the case alone.
+/// A call of a file, by its name: its own number and the run of numbers put before it.
+// Beside `CallName` by a rule of the project: each call is handed out as a case that holds its own number and its run of put numbers.
 #[derive(Clone, Copy)]
 pub enum Call<'a> {
     Type(Parts<'a>),
@@ -34,11 +35,11 @@ pub enum Call<'a> {
     Ask(Parts<'a>),
 }
 
-// A call and its entry.
+/// A call and its entry.
 pub type PlacedCall<'a> = Placed<Call<'a>>;
 
 impl<'a> Call<'a> {
-    // The call of a name.
+    /// The call of a name.
     pub fn new(name: CallName, parts: Parts<'a>) -> Call<'a>
         ensures { result ≡ named parts.entry name }
     {
@@ -61,7 +62,7 @@ impl<'a> Call<'a> {
         }
     }
 
-    // Which call it is.
+    /// Which call it is.
     pub fn name(&self) -> CallName
         ensures { result ≡ name_of_call self.now }
     {
@@ -84,7 +85,7 @@ impl<'a> Call<'a> {
         }
     }
 
-    // Its own number and the numbers put before it.
+    /// Its own number and the numbers put before it.
     pub fn parts(self) -> Parts<'a>
         ensures { result ≡ parts_of_call self.entry }
     {

@@ -6,18 +6,18 @@ use crate::placed::Placed;
 use std::error::Error;
 use std::fmt;
 
-// A fault of the format itself.
+/// A fault of the format itself.
 #[derive(Clone, Copy, PartialEq, Eq, Debug)]
 pub enum FormatFault {
-    // not 4 + 9n bytes, or too many entries
+    /// not 4 + 9n bytes, or too many entries
     Length,
-    // an entry's tag is above 15
+    /// an entry's tag is above 15
     UnknownTag,
-    // numbers were put after the last call
+    /// numbers were put after the last call
     NumbersLeft,
 }
 
-// A fault with the entry at which reading stopped.
+/// A fault with the entry at which reading stopped.
 pub type FileFault = Placed<FormatFault>;
 
 // The number by which a fault is reported.
@@ -33,7 +33,7 @@ impl From<FormatFault> for u32 {
     }
 }
 
-// What a fault means, for people.
+// What a fault means, for people; by hand, so that the text is promised: a derived message states none.
 impl fmt::Display for FormatFault {
     ghost output = { λ fault. Printed (message_of fault) };
 

@@ -5,6 +5,7 @@ ghost use Rattle.pattern_file.specs.Names.{name_of, known, tag_of, text_of};
 use crate::faults::FormatFault;
 use std::fmt;
 
+/// Which call an entry makes; the number of each is its tag.
 #[derive(Clone, Copy, PartialEq, Eq, Debug)]
 pub enum CallName {
     Type = 1,
@@ -62,7 +63,7 @@ impl From<CallName> for u8 {
 }
 
 impl CallName {
-    // The name as text.
+    /// The name as text.
     pub fn as_str(self) -> &'static str
         ensures { result.now ≡ text_of self }
     {

@@ -4,7 +4,8 @@ ghost use Rattle.std.specs.Iterator.{YieldsFirst, item_count};
 ghost use Rattle.std.specs.List.{slice_get};
 ghost use Rattle.pattern_file.specs.Bytes.{signed_numbers};
 
-// Bytes of the file itself, nothing copied. No `impl Model`: the check refuses one beside `Copy` on a struct with a lifetime.
+/// The numbers put before a call: bytes of the file itself, nothing copied.
+// No `impl Model`: the check refuses one beside `Copy` on a struct with a lifetime.
 #[derive(Clone, Copy)]
 pub struct PutNumbers<'a> {
     pub(crate) numbers: &'a [[u8; 8]],
@@ -13,21 +14,21 @@ pub struct PutNumbers<'a> {
 impl<'a> PutNumbers<'a> {
     ghost use Rattle.pattern_file.specs.Calls.{numbers_put, numbers_left};
 
-    // How many numbers there are.
+    /// How many numbers there are.
     pub fn len(&self) -> usize
         ensures { result ≡ length (numbers_put self.now) }
     {
         self.numbers.len()
     }
 
-    // Whether there is none.
+    /// Whether there is none.
     pub fn is_empty(&self) -> bool
         ensures { result ≡ (length (numbers_put self.now) == 0) }
     {
         self.numbers.is_empty()
     }
 
-    // The number at `i`, or nothing past the last.
+    /// The number at `i`, or nothing past the last.
     #[tactic(auto, using(crate::proofs::ByteNumbers::nth_number, crate::proofs::ByteNumbers::no_number, crate::proofs::ByteNumbers::number_read))]
     pub fn get(&self, i: usize) -> Option<i64>
         ensures { result ≡ slice_get (numbers_put self.now) i }
@@ -36,7 +37,7 @@ impl<'a> PutNumbers<'a> {
         Some(i64::from_le_bytes(*bytes))
     }
 
-    // The numbers in order.
+    /// The numbers in order.
     pub fn iter(&self) -> Numbers<'a>
         ensures { numbers_left result ≡ numbers_put self.now }
     {
@@ -46,7 +47,7 @@ impl<'a> PutNumbers<'a> {
     }
 }
 
-// An iterator over the numbers put before a call, in order.
+/// An iterator over the numbers put before a call, in order.
 #[derive(Clone, Drop)]
 pub struct Numbers<'a> {
     numbers: &'a [[u8; 8]],

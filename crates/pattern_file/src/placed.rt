@@ -1,14 +1,14 @@
 // Something at an entry of a file: a call, a fault or a refusal.
 ghost use Rattle.std.specs.Prelude.{ℕ, Result as Outcome};
 
-// What was found, with the entry at which it was.
+/// What was found, with the entry at which it was.
 #[derive(Clone, Copy, PartialEq, Eq, Debug)]
 pub struct Placed<T> {
     pub entry: usize,
     pub item: T,
 }
 
-// Adds to an error the entry at which it was found.
+/// Adds to an error the entry at which it was found.
 pub trait AtEntry<T, E>: Sized {
     ghost use Rattle.pattern_file.specs.declared.placed.Placed.{Placed as Found};
 

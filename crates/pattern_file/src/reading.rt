@@ -8,7 +8,7 @@ use crate::placed::AtEntry;
 use crate::unread::Unread;
 use std::marker::Model;
 
-// A reader of a file. Contracts see what it has still to hand out.
+/// A reader of a file. Contracts see what it has still to hand out.
 #[derive(Drop)]
 pub struct Reader<'a> {
     unread: Result<Unread<'a>, FormatFault>,
@@ -27,7 +27,7 @@ impl<'a> Model for Reader<'a> {
 impl<'a> Reader<'a> {
     ghost use Rattle.pattern_file.specs.Readers.{handed};
 
-    // A reader at the first entry of a file. Where the file's length is wrong, that is what it hands out.
+    /// A reader at the first entry of a file. Where the file's length is wrong, that is what it hands out.
     #[tactic(auto, using(crate::proofs::FewCalls::few_calls))]
     pub fn open(bytes: &'a [u8]) -> Reader<'a>
         ensures value { result ≡ contents bytes.now }
@@ -38,8 +38,8 @@ impl<'a> Reader<'a> {
         }
     }
 
-    // The next call with its entry; nothing at the end. A fault stays, and is handed out again.
-    // Free is only where in memory the part with the put numbers lies: no clause says that it is the file's own.
+    /// The next call with its entry; nothing at the end. A fault stays, and is handed out again.
+    /// Free is only where in memory the part with the put numbers lies: no clause says that it is the file's own.
     pub fn next_call(&mut self) -> Result<Option<PlacedCall<'a>>, FileFault>
         ensures value { handed result ≡ first self.old }
         ensures moves { self.new ≡ after self.old }
@@ -51,7 +51,8 @@ impl<'a> Reader<'a> {
     }
 }
 
-// How many calls a file makes. A loop, since a reader is no iterator: a fault stays, and is handed out again.
+/// How many calls a file makes.
+// A loop, since a reader is no iterator: a fault stays, and is handed out again.
 pub fn count_calls(bytes: &[u8]) -> Result<usize, FileFault>
     ensures { result ≡ counted (contents bytes.now) }
 {

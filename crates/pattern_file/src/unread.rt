@@ -11,7 +11,7 @@ use crate::names::CallName;
 use crate::numbers::PutNumbers;
 use crate::placed::{AtEntry, Placed};
 
-// The tags of a file and the eight bytes of each number, and the entry from which it is still to be read.
+/// The tags of a file and the eight bytes of each number, and the entry from which it is still to be read.
 // Two slices, since the file has all tags before all numbers, and nothing is copied.
 #[derive(Drop)]
 pub(crate) struct Unread<'a> {
@@ -40,7 +40,7 @@ fn entry_count(bytes: &[u8]) -> Result<usize, FormatFault>
 impl<'a> Unread<'a> {
     ghost use Rattle.pattern_file.specs.Readers.{run_at, rest_at, rest_of, pending, call_at, taken_at, handed};
 
-    // All entries of a file.
+    /// All entries of a file.
     #[tactic(auto, using(crate::proofs::Opening::opened_file, crate::proofs::Opening::refused_file))]
     pub(crate) fn open(bytes: &'a [u8]) -> Result<Unread<'a>, FormatFault>
         ensures { pending result ≡ contents bytes.now }
@@ -77,7 +77,7 @@ impl<'a> Unread<'a> {
         Call::new(name, Parts { own, put })
     }
 
-    // The next call with its entry; nothing at the end. A fault stays.
+    /// The next call with its entry; nothing at the end. A fault stays.
     pub(crate) fn next_call(&mut self) -> Result<Option<PlacedCall<'a>>, FileFault>
         ensures value { handed result ≡ first (rest_of self.old) }
         ensures moves { rest_of self.new ≡ after (rest_of self.old) }

@@ -8,16 +8,16 @@ use crate::entries::{Entry, MOST_ENTRIES};
 use std::error::Error;
 use std::fmt;
 
-// Why nothing was written.
+/// Why nothing was written.
 #[derive(Clone, Copy, PartialEq, Eq, Debug)]
 pub enum WriteRefusal {
-    // over 5,000
+    /// over 5,000 entries
     TooManyEntries,
-    // for the file of so many entries
+    /// `out` is shorter than the file of so many entries
     OutTooShort,
 }
 
-// What a refusal means, for people.
+// What a refusal means, for people; by hand, so that the text is promised: a derived message states none.
 impl fmt::Display for WriteRefusal {
     ghost output = { λ refusal. Printed (refusal_message refusal) };
 
@@ -38,14 +38,14 @@ fn put_entries(out: &mut [u8], entries: &[Entry])
     ensures fit { Fit entries.now }
 {
     let (tags, numbers) = out.split_at_mut(entries.len());
-    // by index: after a borrow of pieces of a slice a proof knows its length and not its bytes
+    // by index: after `iter_mut` or `chunks_mut` a proof knows a slice's length and not its bytes
     for (i, entry) in entries.iter().enumerate() {
         tags[i] = entry.tag;
         numbers[8 * i..8 * i + 8].copy_from_slice(&entry.number.to_le_bytes());
     }
 }
 
-// The length of the file of these entries. `read_back` is a law of every list of entries.
+/// The length of the file of these entries. `read_back` is a law of every list of entries.
 #[tactic(auto, using(crate::proofs::RoundTrip::reads_back))]
 pub fn file_length(entries: &[Entry]) -> Result<usize, WriteRefusal>
     ensures value { result ≡ size_for (length entries.now) }
@@ -59,7 +59,7 @@ pub fn file_length(entries: &[Entry]) -> Result<usize, WriteRefusal>
     }
 }
 
-// Writes the file to the front of `out`, and says how long it is; at a refusal nothing is written.
+/// Writes the file to the front of `out`, and says how long it is; at a refusal nothing is written.
 pub fn write_file(out: &mut [u8], entries: &[Entry]) -> Result<usize, WriteRefusal>
     ensures value { (out.new, result) ≡ written entries.now out.old }
     ensures read_back { IfOk result (λ n. contents (take n out.new) ≡ calls_of entries.now) }
