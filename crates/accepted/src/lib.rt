@@ -1,4 +1,5 @@
 // What the calls accept fits the theory: the sheet and the tree of every workbook that calls can make may be judged.
+// Each function has a theorem for its contract, which its caller learns; one generic function would want a type for each statement.
 #![tactic(auto)]
 
 ghost use Rattle.accepted.specs.Judgeable.{ReachedJudgeable, ReachedLawful};

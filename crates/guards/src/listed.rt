@@ -12,6 +12,7 @@ use crate::written::{MOST_LISTED_STEPS, WrittenQuestion};
 /// A host that answers by a list: the first equal question decides, and one that is not listed gets no.
 /// What is no entry ends the list: a question cut short, of over four places or of over 16 steps in one,
 /// or an answer that is neither 1 nor 0.
+// A slice as it is lent: any numbers are a list of answers, up to where none can be read.
 #[derive(Clone, Copy)]
 pub struct ListedAnswers<'a> {
     pub numbers: &'a [u16],
@@ -37,6 +38,7 @@ impl<'a> Iterator for Entries<'a> {
         };
         let (question, rest) = unread.question()?;
         let (answer, rest) = rest.split_first()?;
+        // two looks: tried as a `match` with an arm for 0 and one for 1, after which both goals stay open
         if *answer > 1 {
             return None;
         }

@@ -1,4 +1,4 @@
-// Writing places and listed answers into lent numbers.
+// Writing places and listed answers into numbers that are lent, so that nothing asks for memory: how many were written is handed back.
 ghost use Rattle.std.specs.Prelude.{◌≡◌};
 ghost use Rattle.guards.specs.Laws.{ListedForm};
 ghost use Rattle.guards.specs.Views.{question_of};

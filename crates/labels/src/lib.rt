@@ -60,7 +60,7 @@ impl Labels {
         (self.serves(sort) && set <= self.all()).then_some(set)
     }
 
-    // The label that an atom is, if the number is one.
+    // The label that an atom is, if the number is one. Not one generic function with `set_of`: it would want bounds on conversion and order for four lines.
     fn label_of(&self, sort: u16, atom: i64) -> Option<u8>
         ensures { option_map pos result ≡ then_some ((labels self.now.count).atom sort atom) atom }
     {

@@ -6,7 +6,7 @@ use pattern_file::{MOST_BYTES, count_calls};
 use std::io::Read;
 
 // One byte more than the longest pattern file is enough to see that it is none.
-// `as`: Rust has no `From<usize> for u64`
+// `as`: Rust has no `From<usize> for u64`, and a constant calls no `try_from`
 const MOST_READ: u64 = MOST_BYTES as u64 + 1;
 
 // Standard output has only the listing; what a fault means goes to standard error.

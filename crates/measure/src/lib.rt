@@ -10,6 +10,7 @@ pub use asks::{Ask, any_atom, solve};
 
 /// A kind serves some of the sorts 0 to 65,535. A sort that it serves has atoms, at least one, and tests, each a yes or
 /// no for every atom. No call is refused, and none changes what the kind means.
+// A sort and a number go side by side: callers have the sort from a type and the number from a call, and would put them together for each question.
 pub trait Kind: Drop {
     /// A set of atoms of one sort.
     type Region: Copy;

@@ -26,7 +26,7 @@ fn entry_count(bytes: &[u8]) -> Result<usize, FormatFault>
     ensures { result ≡ (if well_sized bytes.now then Fine (announced bytes.now) else Refused BadLength) }
 {
     let (count, entries) = bytes.split_first_chunk::<4>().ok_or(FormatFault::Length)?;
-    // `as`: Rust has no `From<u32> for usize`
+    // `as`: Rust has no `From<u32> for usize`, and `try_from` would hand out an error that never comes
     let count = u32::from_le_bytes(*count) as usize;
     if count > MOST_ENTRIES {
         return Err(FormatFault::Length);
@@ -54,7 +54,7 @@ impl<'a> Unread<'a> {
         })
     }
 
-    // The entry of the next call, past the numbers that are put for it; or the end.
+    // The entry of the next call, past the numbers that are put for it; or the end, which is the entry of the fault where numbers are left over.
     fn call_entry(&self) -> usize
         ensures put { AllWithin (λ tag. tag ≡ 0) (drop self.now.at self.now.tags.now) 0 (result - self.now.at) }
         ensures bound { (self.now.at ≤ result) × (result ≤ length self.now.tags.now) }

@@ -1,4 +1,5 @@
 // Writing a file from its entries: their number and their tags, then their numbers, which begin in the middle of the slice.
+// The memory is lent, so that nothing asks for any: the length of the file is handed back.
 ghost use Rattle.std.specs.Prelude.{◌≡◌, ◌*◌, ◌≤◌, ◌++◌, map, length, take, drop, IfOk, Some as Printed};
 ghost use Rattle.std.specs.List.{flat_map};
 ghost use Rattle.pattern_file.specs.Contents.{tag_of_entry, number_of_entry, contents, calls_of};
@@ -68,7 +69,7 @@ pub fn write_file(out: &mut [u8], entries: &[Entry]) -> Result<usize, WriteRefus
     if out.len() < size {
         return Err(WriteRefusal::OutTooShort);
     }
-    // `as`: at most 5,000, since there is a `size`
+    // `as`: at most 5,000, since there is a `size`; `try_from` would hand out an error that never comes
     out[..4].copy_from_slice(&(entries.len() as u32).to_le_bytes());
     put_entries(&mut out[4..], entries);
     Ok(size)

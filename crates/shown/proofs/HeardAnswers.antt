@@ -3,6 +3,7 @@ use Rattle.std.proofs.Common.{◌≡◌, ◌+◌, ◌*◌, ◌≤◌, Bool, true
 use Rattle.std.proofs.lemmas.List.{length-append}
 use Rattle.std.specs.List.{AllByRecursion, All}
 use Rattle.measure.specs.Measure.{Measure}
+use Rattle.guards.proofs.Pairs.{length_written}
 use Rattle.guards.specs.Questions.{Question, Rule, Steps, Within, same_question, written, written_steps, written_places}
 use Rattle.guards.specs.Hosts.{Asked}
 use Rattle.guards.specs.Listed.{listed_rule, written_answers, first_answer, bit}
@@ -50,13 +51,9 @@ module _ (m : Measure) (v : Value) (rule : Rule) (k : Knowledge) (within : AllWi
 
 -- ── how many numbers ──
 
-steps_length : (p : Steps) → length (written_steps p) ≡ 2 * length p
-steps_length [] = refl
-steps_length (s ∷ p) = omega (arith, steps_length p)
-
 places_length : (ps : List Steps) → AllByRecursion (λ p. length p ≤ 16) ps → length (written_places ps) ≤ 33 * length ps
 places_length [] h = omega arith
-places_length (p ∷ ps) h = omega (arith, h.0, length-append (written_steps p) (written_places ps), steps_length p, places_length ps h.1)
+places_length (p ∷ ps) h = omega (arith, h.0, length-append (written_steps p) (written_places ps), length_written p, places_length ps h.1)
 
 question_length : (q : Question) → Within 16 q → length (written q) ≤ 134
 question_length q h = omega (arith, h.0, places_length q.places h.1)
