@@ -13,7 +13,7 @@ use Rattle.rules.specs.Book.{Book, Schema, schema_of, fields_in, fields_of, owne
 use Rattle.rules.specs.Sheets.{Pattern, Patterns, any, bind, build, either, gauge, no_patterns, with_pattern, patterns_at, pattern_from, patterns_of, levels, pattern_type}
 use Rattle.rules.specs.Rows.{part, any_row, bind_row, build_row, either_row, gauge_row}
 use Rattle.rules.specs.Grounds.{unknown, any_unknown, row_of, type_of_pattern, parts_differ, differ, pattern_at, new_pattern, building_grounds}
-use Rattle.rules.proofs.Lists.{All-slice_get, Clear, Begins, slice_get-Begins, known, length-unfolded, All-get_or}
+use Rattle.rules.proofs.Lists.{AllByRecursion-slice_get, Clear, Begins, slice_get-Begins, known, length-unfolded, AllByRecursion-get_or}
 use Rattle.theory.specs.Runs.{PatternFits, PatternsFit}
 use Rattle.accepted.proofs.Known.{known_under, named_meaning, not_different}
 use Rattle.std.proofs.lemmas.Option.{none-some}
@@ -46,7 +46,7 @@ module _ (m : Measure) (b : Book) (fitting : AllByRecursion (Fitted (schema_of b
   earlier z h =
       let l = known_under b.patterns z h in
       let e = length-unfolded pattern_from [] b.patterns in
-      All-get_or (Fitted (schema_of b)) (patterns_of b.patterns) (natural z) (any 0) (omega arith) fitting
+      AllByRecursion-get_or (Fitted (schema_of b)) (patterns_of b.patterns) (natural z) (any 0) (omega arith) fitting
 
   pub type_named : (z : ℤ) (h : unknown b.patterns z ≡ false) → type_of_pattern b z ≡ Some (earlier z h).type
   type_named z h =
@@ -113,7 +113,7 @@ module _ (m : Measure) (b : Book) (fitting : AllByRecursion (Fitted (schema_of b
       let k = or_parts (unknown b.constructors own) (any_unknown b.patterns put) c.1.0 in
       let r = known b.constructors own k.0 in
       let at = slice_get-natural b.constructors own r.0 r.1 in
-      let f = All-slice_get (ConstructorFits b.types) b.constructors (natural own) r.0 constructors at in
+      let f = AllByRecursion-slice_get (ConstructorFits b.types) b.constructors (natural own) r.0 constructors at in
       let wrong : (not (eqb (length put) (length r.0.fields))) ≡ false
       = sym (ap (λ (o : Option ConstructorRow). is_some o && not (eqb (length put) (length (fields_in o)))) r.1) ∙ c.0 in
       let long = eqb-true (length put) (length r.0.fields) (not-false (eqb (length put) (length r.0.fields)) wrong) in

@@ -18,7 +18,7 @@ use Rattle.rules.specs.Trees.{place_from, places_from}
 use Rattle.rules.specs.Grounds.{unknown, step_count, building_grounds}
 use Rattle.rules.specs.Calls.{make, refusal_of}
 use Rattle.rules.specs.Files.{place_order}
-use Rattle.rules.proofs.Lists.{All-slice_get, Clear-from_none, known, unfolded-push, length-unfolded, All-push, All-get_or}
+use Rattle.rules.proofs.Lists.{AllByRecursion-slice_get, Clear-from_none, known, unfolded-push, length-unfolded, AllByRecursion-push, AllByRecursion-get_or}
 use Rattle.rules.proofs.Chains.{Chain}
 use Rattle.rules.proofs.Wider.{tables}
 use Rattle.theory.specs.ProperRuns.{PlaceFits}
@@ -82,12 +82,12 @@ place_kept m ts cs ps r constructors each h =
     let l = known_under places (pos r.parent) k.0 in
     let p : Place = get_or places r.parent whole in
     let at : slice_get places r.parent ≡ Some p = slice_get-get_or places r.parent whole l in
-    let q = All-get_or (PlaceKept (schema ts cs)) places r.parent whole l each in
+    let q = AllByRecursion-get_or (PlaceKept (schema ts cs)) places r.parent whole l each in
     let c = known cs (pos s) j.0 in
     let f = known (fields_in (slice_get cs s)) (pos i) j.1 in
     let same : c.0.owner ≡ q.type = not_different (owner_in (slice_get cs s)) (and_then (slice_get places r.parent) (place_type (schema ts cs))) c.0.owner q.type (ap owner_in c.1)
     (ap (λ o. and_then o (place_type (schema ts cs))) at ∙ q.typed) g.1.1.0 in
-    let choice = (All-slice_get (ConstructorFits ts) cs s c.0 constructors c.1).choice in
+    let choice = (AllByRecursion-slice_get (ConstructorFits ts) cs s c.0 constructors c.1).choice in
     let few = leb-false 16 (step_count (slice_get places r.parent)) g.1.1.1.0 in
     let count = ap step_count at in
     let more = length_push (steps_of p) r.step in (
@@ -116,7 +116,7 @@ place_pushed (t ∷ ts) cs ps r k l p =
     let rest : drop 1 (places_from (t ∷ ts) (ps ++ r ∷ [])) ≡ drop 1 places ++ place_from places r ∷ [] = ap (drop 1) pushed ∙ drop-append-le 1 places (place_from places r ∷ []) (omega arith) in
     let listed : among (whole ∷ drop 1 places) parent ≡ true = subst (λ l. among l parent ≡ true) first (among_at places r.parent whole l) in
     record {
-      each = subst (AllByRecursion (PlaceKept d)) (sym pushed) (All-push (PlaceKept d) places (place_from places r) k.each p);
+      each = subst (AllByRecursion (PlaceKept d)) (sym pushed) (AllByRecursion-push (PlaceKept d) places (place_from places r) k.each p);
       nested = subst (λ l. each_below (whole ∷ []) l ≡ true) (sym rest)
           (each_below-push (whole ∷ []) (drop 1 places) parent r.step k.nested
           (⊎_elim (λ h. inl (or_left (same_place whole parent) false h)) (λ h. inr h) (or_cases (same_place whole parent) (among (drop 1 places) parent) listed)));

@@ -18,7 +18,7 @@ use Rattle.rules.specs.Grounds.{unknown, any_unknown, type_of_pattern, pattern_a
 use Rattle.rules.specs.Calls.{add_pattern, add_clause, made_by, without_sheet, without_tree, with_pass}
 use Rattle.rules.specs.Files.{constructor_order}
 use Rattle.rules.specs.RoundTrip.{Reached, start, next}
-use Rattle.rules.proofs.Lists.{All-slice_get, Clear, Clear-from_none, Begins, Begins-itself, Begins-append, known, unfolded-push, length-unfolded, All-push, All-weaker}
+use Rattle.rules.proofs.Lists.{AllByRecursion-slice_get, Clear, Clear-from_none, Begins, Begins-itself, Begins-append, known, unfolded-push, length-unfolded, AllByRecursion-push, AllByRecursion-weaker}
 use Rattle.rules.proofs.Chains.{Chain}
 use Rattle.rules.proofs.Wider.{tables}
 use Rattle.rules.proofs.Kept.{SoundBook, Reached-sound, after_keeps}
@@ -50,7 +50,7 @@ sound_constructors m b s = constructors_fit m b.types [] b.constructors (tables 
 
 few_in : (ts : List TypeRow) (cs : List ConstructorRow) (c : ℕ) (o : Option ConstructorRow) → slice_get cs c ≡ o → AllByRecursion (ConstructorFits ts) cs → length (fields_in o) ≤ 4
 few_in ts cs c None e a = omega arith
-few_in ts cs c (Some r) e a = (All-slice_get (ConstructorFits ts) cs c r a e).few
+few_in ts cs c (Some r) e a = (AllByRecursion-slice_get (ConstructorFits ts) cs c r a e).few
 
 pub four_fields : (ts : List TypeRow) (cs : List ConstructorRow) → AllByRecursion (ConstructorFits ts) cs → FourFields (record { types = ts; constructors = cs })
 four_fields ts cs a c = few_in ts cs c (slice_get cs c) refl a
@@ -85,11 +85,11 @@ pattern_kept b r s f =
     let l = length_push b.patterns r in
     let pushed : patterns_of (b.patterns ++ r ∷ []) ≡ xs ++ new_pattern b r ∷ [] = unfolded-push pattern_from [] b.patterns r in
     let same : clauses_of (add_pattern b r) ≡ clauses_of b =
-    ap (λ ps. map (clause_from ps) b.clauses) pushed ∙ same_clauses xs (new_pattern b r) b.clauses (All-weaker (Names (length b.patterns)) (Names (length xs)) (λ x h. omega arith) b.clauses s.naming) in
+    ap (λ ps. map (clause_from ps) b.clauses) pushed ∙ same_clauses xs (new_pattern b r) b.clauses (AllByRecursion-weaker (Names (length b.patterns)) (Names (length xs)) (λ x h. omega arith) b.clauses s.naming) in
     record {
-      patterns = subst (AllByRecursion (Fitted (schema_of b))) (sym pushed) (All-push (Fitted (schema_of b)) xs (new_pattern b r) s.patterns f);
+      patterns = subst (AllByRecursion (Fitted (schema_of b))) (sym pushed) (AllByRecursion-push (Fitted (schema_of b)) xs (new_pattern b r) s.patterns f);
       clauses = subst (AllByRecursion (ClauseFits (schema_of b))) (sym same) s.clauses;
-      naming = All-weaker (Names (length b.patterns)) (Names (length (b.patterns ++ r ∷ []))) (λ x h. omega arith) b.clauses s.naming;
+      naming = AllByRecursion-weaker (Names (length b.patterns)) (Names (length (b.patterns ++ r ∷ []))) (λ x h. omega arith) b.clauses s.naming;
       light = subst (λ ks. sheet_weight ks ≤ 256) (sym same) s.light;
       short = s.short;
     }
@@ -113,8 +113,8 @@ clause_kept m b put own s c =
     record {
       patterns = s.patterns;
       clauses = subst (AllByRecursion (ClauseFits (schema_of b))) (sym pushed)
-          (All-push (ClauseFits (schema_of b)) (clauses_of b) k s.clauses (subst (λ t. PatternFits (schema_of b) t k.pattern) zero_typed f.fits, f.flat));
-      naming = All-push (Names (length b.patterns)) b.clauses r s.naming (known_under b.patterns (part put 0) h);
+          (AllByRecursion-push (ClauseFits (schema_of b)) (clauses_of b) k s.clauses (subst (λ t. PatternFits (schema_of b) t k.pattern) zero_typed f.fits, f.flat));
+      naming = AllByRecursion-push (Names (length b.patterns)) b.clauses r s.naming (known_under b.patterns (part put 0) h);
       light = omega arith;
       short = omega arith;
     }
@@ -125,8 +125,8 @@ schema_wider : (b : Book) (us : List TypeRow) (ds : List ConstructorRow) → Beg
 schema_wider b us ds types constructors s =
     let d : Schema = record { types = us; constructors = ds } in
     record {
-      patterns = All-weaker (Fitted (schema_of b)) (Fitted d) (Fitted-wider b.types us b.constructors ds types constructors) (patterns_of b.patterns) s.patterns;
-      clauses = All-weaker (ClauseFits (schema_of b)) (ClauseFits d) (λ k f. (fits_wider b.types us b.constructors ds types constructors k.pattern 0 f.0, f.1)) (clauses_of b) s.clauses;
+      patterns = AllByRecursion-weaker (Fitted (schema_of b)) (Fitted d) (Fitted-wider b.types us b.constructors ds types constructors) (patterns_of b.patterns) s.patterns;
+      clauses = AllByRecursion-weaker (ClauseFits (schema_of b)) (ClauseFits d) (λ k f. (fits_wider b.types us b.constructors ds types constructors k.pattern 0 f.0, f.1)) (clauses_of b) s.clauses;
       naming = s.naming;
       light = s.light;
       short = s.short;
@@ -172,4 +172,4 @@ sheet_fits d (k ∷ ks) a = (a.0.0, sheet_fits d ks a.1)
 
 pub sheet_flat : (d : Schema) (ks : List Clause) → AllByRecursion (ClauseFits d) ks → All (λ k. levels k.pattern ≤ 16) ks
 sheet_flat d ks a =
-    All-from_recursion (λ k. levels k.pattern ≤ 16) ks (All-weaker (ClauseFits d) (λ k. levels k.pattern ≤ 16) (λ k f. f.1) ks a)
+    All-from_recursion (λ k. levels k.pattern ≤ 16) ks (AllByRecursion-weaker (ClauseFits d) (λ k. levels k.pattern ≤ 16) (λ k f. f.1) ks a)

@@ -20,7 +20,7 @@ use Rattle.rules.specs.Trees.{Tree, Branches, fail, switch, places_from, places_
 use Rattle.rules.specs.Grounds.{unknown, row_of, new_tree, building_grounds}
 use Rattle.rules.specs.Calls.{Order}
 use Rattle.rules.specs.Files.{node_order}
-use Rattle.rules.proofs.Lists.{Clear, Clear-from_none, known, unfolded-push, length-naturals, All-push, All-weaker, take-drop-append}
+use Rattle.rules.proofs.Lists.{Clear, Clear-from_none, known, unfolded-push, length-naturals, AllByRecursion-push, AllByRecursion-weaker, take-drop-append}
 use Rattle.rules.proofs.Chains.{Chain}
 use Rattle.rules.proofs.Wider.{tables, TypeKnown, all_named}
 use Rattle.rules.proofs.Sound.{Held}
@@ -191,10 +191,10 @@ module _ (m : Measure) (ts : List TypeRow) (cs : List ConstructorRow) (ps : List
   pushed ns prs new r held trees t =
       let before : List Tree = nodes_of (tables ts cs ps ns prs) in
       subst (AllByRecursion (TreeKept d table)) (sym (unfolded-push (node_from places (prs ++ new)) [] ns r ∙ ap (λ l. l ++ node_from places (prs ++ new) l r ∷ []) (same_nodes places prs new ns held)))
-      (All-push (TreeKept d table) before (node_from places (prs ++ new) before r) trees t)
+      (AllByRecursion-push (TreeKept d table) before (node_from places (prs ++ new) before r) trees t)
 
   Held-push : (ns : List NodeRow) (prs new : List PairRow) (r : NodeRow) → AllByRecursion (Held prs) ns → Held (prs ++ new) r → AllByRecursion (Held (prs ++ new)) (ns ++ r ∷ [])
-  Held-push ns prs new r held h = All-push (Held (prs ++ new)) ns r (All-weaker (Held prs) (Held (prs ++ new)) (held_more prs new) ns held) h
+  Held-push ns prs new r held h = AllByRecursion-push (Held (prs ++ new)) ns r (AllByRecursion-weaker (Held prs) (Held (prs ++ new)) (held_more prs new) ns held) h
 
   pub trees_kept : (all : List PairRow) (rows ns ns' : List NodeRow) (prs prs' : List PairRow) → AllByRecursion (Held prs) ns → AllByRecursion (TreeKept d table) (nodes_of (tables ts cs ps ns prs))
       → Chain m (tables ts cs ps ns prs) (map (node_order all) rows) (tables ts cs ps ns' prs') → AllByRecursion (TreeKept d table) (nodes_of (tables ts cs ps ns' prs'))

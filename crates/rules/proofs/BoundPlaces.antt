@@ -7,7 +7,7 @@ use Rattle.rules.specs.Garments.{Value, Values, built, measured, no_values, with
 use Rattle.rules.specs.Sheets.{Pattern, Patterns, any, bind, build, either, gauge, no_patterns, with_pattern, Binding, Bound, both, or_else, binding, field, matches, matches_all}
 use Rattle.rules.specs.PlaceLaws.{Found, PlacesAreSteps}
 use Rattle.rules.proofs.PlaceSteps.{same_place, walked, standing_fits, fits_standing, part_stands}
-use Rattle.rules.proofs.Lists.{All-append}
+use Rattle.rules.proofs.Lists.{AllByRecursion-append}
 use Rattle.std.proofs.lemmas.List.Elements.{All-from_recursion}
 
 next : (i j : ℕ) → suc i + j ≡ i + suc j
@@ -21,7 +21,7 @@ Finds v (Some bs) = AllByRecursion (λ k. Found v k.place) bs
 Finds-both : (v : Value) (a b : Bound) → Finds v a → Finds v b → Finds v (both a b)
 Finds-both v None b h k = tt
 Finds-both v (Some xs) None h k = tt
-Finds-both v (Some xs) (Some ys) h k = All-append (λ z. Found v z.place) xs ys h k
+Finds-both v (Some xs) (Some ys) h k = AllByRecursion-append (λ z. Found v z.place) xs ys h k
 
 Finds-either : (v : Value) (a b : Bound) → Finds v a → Finds v b → Finds v (or_else a b)
 Finds-either v None b h k = k

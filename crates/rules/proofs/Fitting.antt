@@ -26,7 +26,7 @@ use Rattle.rules.specs.Grounds.{unknown, any_unknown, is_minus_one, is_code, row
 use Rattle.rules.specs.Calls.{Order}
 use Rattle.rules.specs.Files.{or_minus_one, type_order, constructor_order, place_order, node_order, order_entries}
 use Rattle.rules.proofs.Chains.{Chain}
-use Rattle.rules.proofs.Lists.{Clear-from_none, known, All-append}
+use Rattle.rules.proofs.Lists.{Clear-from_none, known, AllByRecursion-append}
 use Rattle.rules.proofs.Wider.{tables, TypeKnown, all_named}
 use Rattle.rules.proofs.Sound.{fields_known, whole_typed, places_typed}
 use Rattle.rules.proofs.Entries.{types_within, constructors_within, places_within, places_length}
@@ -210,8 +210,8 @@ put_fit (z ∷ zs) a = ((omega arith, a.0), put_fit zs a.1)
 pub orders_entries : (os : List Order) → AllByRecursion Fit os → AllByRecursion EntryFits (flat_map order_entries os)
 orders_entries [] a = tt
 orders_entries (o ∷ os) a =
-    All-append EntryFits (order_entries o) (flat_map order_entries os)
-    (All-append EntryFits (map (λ z. record { tag = 0; number = z }) o.put) (record { tag = tag_of o.name; number = o.own } ∷ []) (put_fit o.put a.0.0) ((tag_small o.name, a.0.1), tt))
+    AllByRecursion-append EntryFits (order_entries o) (flat_map order_entries os)
+    (AllByRecursion-append EntryFits (map (λ z. record { tag = 0; number = z }) o.put) (record { tag = tag_of o.name; number = o.own } ∷ []) (put_fit o.put a.0.0) ((tag_small o.name, a.0.1), tt))
     (orders_entries os a.1)
 
 -- the orders of all four tables

@@ -21,7 +21,7 @@ use Rattle.rules.specs.Calls.{Order, Call, make, clear_sheet, clear_tree, judge,
 use Rattle.rules.specs.Files.{order, or_minus_one, pair_numbers, type_order, constructor_order, place_order, node_order}
 use Rattle.rules.specs.RoundTrip.{Reached, start, next}
 use Rattle.rules.proofs.Chains.{Chain, Chain-push}
-use Rattle.rules.proofs.Lists.{Clear, Clear-from_none, none_from_Clear, Begins, Begins-itself, Begins-append, unfolded-push, All-push, All-weaker, take-drop-append}
+use Rattle.rules.proofs.Lists.{Clear, Clear-from_none, none_from_Clear, Begins, Begins-itself, Begins-append, unfolded-push, AllByRecursion-push, AllByRecursion-weaker, take-drop-append}
 use Rattle.rules.proofs.WrittenBack.{type_back, constructor_back, place_back, leaf_back, fail_back, never_back, switch_back, test_back, ask_back}
 use Rattle.rules.proofs.Wider.{tables, TypeKnown, places_begin}
 use Rattle.rules.proofs.Sound.{Held, Sound, FieldsKnown, fields_known, whole_typed, places_typed, constructors_wider, places_wider, nodes_wider}
@@ -111,7 +111,7 @@ module _ (m : Measure) (ts : List TypeRow) (cs : List ConstructorRow) (ps : List
     nodes = subst (Chain m (tables ts cs ps [] []) (map (node_order (qs ++ new)) (ns ++ r ∷ []))) made_is
         (pushed m (tables ts cs ps [] []) (tables ts cs ps ns qs) (node_order (qs ++ new)) ns r o
         (subst (λ os. Chain m (tables ts cs ps [] []) os (tables ts cs ps ns qs)) (same_orders qs new ns s.pairs) s.nodes) h e);
-    pairs = All-push (Held (qs ++ new)) ns r (All-weaker (Held qs) (Held (qs ++ new)) (held_more qs new) ns s.pairs) k;
+    pairs = AllByRecursion-push (Held (qs ++ new)) ns r (AllByRecursion-weaker (Held qs) (Held (qs ++ new)) (held_more qs new) ns s.pairs) k;
   }
 
   pub node_call_kept : (x : CallName) (new : List PairRow) (r : NodeRow) (put : List ℤ) (own : ℤ) → Clear (building_grounds m (tables ts cs ps ns qs) x put own)

@@ -11,24 +11,24 @@ use Rattle.std.proofs.lemmas.List.{length_push, length-drop, drop-append-le, tak
 -- ── what holds of each of a list ──
 
 module _ {A : Type 0} (P : A → Type 0) where
-  pub All-slice_get : (xs : List A) (n : ℕ) (x : A) → AllByRecursion P xs → slice_get xs n ≡ Some x → P x
-  All-slice_get [] n x a h = absurd (none-some x h)
-  All-slice_get (y ∷ xs) zero x a h = let e : y ≡ x = cc in subst P e a.0
-  All-slice_get (y ∷ xs) (suc n) x a h = All-slice_get xs n x a.1 h
+  pub AllByRecursion-slice_get : (xs : List A) (n : ℕ) (x : A) → AllByRecursion P xs → slice_get xs n ≡ Some x → P x
+  AllByRecursion-slice_get [] n x a h = absurd (none-some x h)
+  AllByRecursion-slice_get (y ∷ xs) zero x a h = let e : y ≡ x = cc in subst P e a.0
+  AllByRecursion-slice_get (y ∷ xs) (suc n) x a h = AllByRecursion-slice_get xs n x a.1 h
 
-  pub All-get_or : (xs : List A) (n : ℕ) (d : A) → n < length xs → AllByRecursion P xs → P (get_or xs n d)
-  All-get_or xs n d l a = All-slice_get xs n (get_or xs n d) a (slice_get-get_or xs n d l)
+  pub AllByRecursion-get_or : (xs : List A) (n : ℕ) (d : A) → n < length xs → AllByRecursion P xs → P (get_or xs n d)
+  AllByRecursion-get_or xs n d l a = AllByRecursion-slice_get xs n (get_or xs n d) a (slice_get-get_or xs n d l)
 
-  pub All-append : (xs ys : List A) → AllByRecursion P xs → AllByRecursion P ys → AllByRecursion P (xs ++ ys)
-  All-append [] ys a b = b
-  All-append (x ∷ xs) ys a b = (a.0, All-append xs ys a.1 b)
+  pub AllByRecursion-append : (xs ys : List A) → AllByRecursion P xs → AllByRecursion P ys → AllByRecursion P (xs ++ ys)
+  AllByRecursion-append [] ys a b = b
+  AllByRecursion-append (x ∷ xs) ys a b = (a.0, AllByRecursion-append xs ys a.1 b)
 
-  pub All-push : (xs : List A) (x : A) → AllByRecursion P xs → P x → AllByRecursion P (xs ++ x ∷ [])
-  All-push xs x a p = All-append xs (x ∷ []) a (p, tt)
+  pub AllByRecursion-push : (xs : List A) (x : A) → AllByRecursion P xs → P x → AllByRecursion P (xs ++ x ∷ [])
+  AllByRecursion-push xs x a p = AllByRecursion-append xs (x ∷ []) a (p, tt)
 
-  pub All-weaker : (Q : A → Type 0) → ((x : A) → P x → Q x) → (xs : List A) → AllByRecursion P xs → AllByRecursion Q xs
-  All-weaker Q f [] a = tt
-  All-weaker Q f (x ∷ xs) a = (f x a.0, All-weaker Q f xs a.1)
+  pub AllByRecursion-weaker : (Q : A → Type 0) → ((x : A) → P x → Q x) → (xs : List A) → AllByRecursion P xs → AllByRecursion Q xs
+  AllByRecursion-weaker Q f [] a = tt
+  AllByRecursion-weaker Q f (x ∷ xs) a = (f x a.0, AllByRecursion-weaker Q f xs a.1)
 
 -- a part of a list stays where the list grows
 pub take-drop-append : {A : Type 0} (xs ys : List A) (first count : ℕ) → first + count ≤ length xs → take count (drop first (xs ++ ys)) ≡ take count (drop first xs)

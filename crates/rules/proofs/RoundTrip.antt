@@ -14,7 +14,7 @@ use Rattle.rules.proofs.Wider.{tables}
 use Rattle.rules.proofs.Entries.{joined_append, types_within, constructors_within, places_within, nodes_within}
 use Rattle.rules.proofs.Fitting.{Fit, orders_entries, tables_fit, EntryFits}
 use Rattle.rules.proofs.Kept.{SoundBook, Reached-sound}
-use Rattle.rules.proofs.Lists.{All-append}
+use Rattle.rules.proofs.Lists.{AllByRecursion-append}
 use Rattle.std.proofs.lemmas.List.Elements.{All-from_recursion}
 
 module _ (m : Measure) (b : Book) (s : SoundBook m b) where
@@ -51,8 +51,8 @@ module _ (m : Measure) (b : Book) (s : SoundBook m b) where
   orders_Fit : Lawful m → AllByRecursion Fit (release_orders b)
   orders_Fit lawful =
       let f = tables_fit m b lawful s in
-      All-append Fit (map type_order b.types) _ f.types
-      (All-append Fit (map constructor_order b.constructors) _ f.constructors (All-append Fit (map place_order b.places) _ f.places f.nodes))
+      AllByRecursion-append Fit (map type_order b.types) _ f.types
+      (AllByRecursion-append Fit (map constructor_order b.constructors) _ f.constructors (AllByRecursion-append Fit (map place_order b.places) _ f.places f.nodes))
 
 pub files_read_back : FilesReadBack
 files_read_back m b r = let s = Reached-sound m b r in (reads_back m b s, entries_few m b s)

@@ -19,7 +19,7 @@ use Rattle.rules.specs.Grounds.{unknown, any_unknown, building_grounds}
 use Rattle.rules.specs.Calls.{Order, make, refusal_of}
 use Rattle.rules.specs.Files.{order, type_order, constructor_order, place_order, node_order}
 use Rattle.rules.proofs.Chains.{Chain}
-use Rattle.rules.proofs.Lists.{Clear, Clear-from_none, none_from_Clear, Begins, All-slice_get, known, unfolded-push, All-push}
+use Rattle.rules.proofs.Lists.{Clear, Clear-from_none, none_from_Clear, Begins, AllByRecursion-slice_get, known, unfolded-push, AllByRecursion-push}
 use Rattle.rules.proofs.Wider.{tables, TypeKnown, constructor_wider, place_wider, leaf_wider, switch_wider, test_wider, ask_wider}
 
 -- the pairs of a switch stand in the table of pairs
@@ -67,7 +67,7 @@ field_typed ts cs c i fields h k =
     let r = known cs (pos c) h in
     let f = known (fields_in (slice_get cs c)) (pos i) k in
     let e : slice_get r.0.fields i ≡ Some f.0 = ap (λ o. slice_get (fields_in o) i) (sym r.1) ∙ f.1 in
-    let t = All-slice_get (Typed ts) r.0.fields i f.0 (All-slice_get (FieldsKnown ts) cs c r.0 fields r.1) e in
+    let t = AllByRecursion-slice_get (Typed ts) r.0.fields i f.0 (AllByRecursion-slice_get (FieldsKnown ts) cs c r.0 fields r.1) e in
     (f.0, t.0, f.1, t.1)
 
 place_typed : (m : Measure) (ts : List TypeRow) (cs : List ConstructorRow) (ps : List PlaceRow) (r : PlaceRow) → AllByRecursion (FieldsKnown ts) cs
@@ -83,7 +83,7 @@ typed_push : (ts : List TypeRow) (cs : List ConstructorRow) (ps : List PlaceRow)
     → AllByRecursion (TypeKnown ts cs) (places_from ts (ps ++ r ∷ []))
 typed_push [] cs ps r a k = tt
 typed_push (t ∷ ts) cs ps r a k =
-    subst (AllByRecursion (TypeKnown (t ∷ ts) cs)) (sym (unfolded-push place_from (whole ∷ []) ps r)) (All-push (TypeKnown (t ∷ ts) cs) (places_from (t ∷ ts) ps) (place_from (places_from (t ∷ ts) ps) r) a k)
+    subst (AllByRecursion (TypeKnown (t ∷ ts) cs)) (sym (unfolded-push place_from (whole ∷ []) ps r)) (AllByRecursion-push (TypeKnown (t ∷ ts) cs) (places_from (t ∷ ts) ps) (place_from (places_from (t ∷ ts) ps) r) a k)
 
 pub whole_typed : (ts : List TypeRow) (cs : List ConstructorRow) → AllByRecursion (TypeKnown ts cs) (places_from ts [])
 whole_typed [] cs = tt

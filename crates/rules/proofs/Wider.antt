@@ -16,7 +16,7 @@ use Rattle.rules.specs.Garments.{Place, whole, below, place_type}
 use Rattle.rules.specs.Rows.{part, pair_rows, switch_row, test_row, ask_row}
 use Rattle.rules.specs.Trees.{places_from, nodes_of, depth}
 use Rattle.rules.specs.Grounds.{unknown, any_unknown, is_minus_one, is_code, differ, row_of, no_test_of, evens, odds, any_owner_differs, new_tree, step_count, building_grounds}
-use Rattle.rules.proofs.Lists.{All-slice_get, Clear, Begins, Begins-itself, slice_get-Begins, known, named-Begins, named_same, unknown-Begins, any_unknown-Begins}
+use Rattle.rules.proofs.Lists.{AllByRecursion-slice_get, Clear, Begins, Begins-itself, slice_get-Begins, known, named-Begins, named_same, unknown-Begins, any_unknown-Begins}
 use Rattle.rules.proofs.Depths.{same_depth, same_depths}
 use Rattle.std.proofs.lemmas.Option.{none-some}
 
@@ -32,7 +32,7 @@ abbrev pub TypeKnown : List TypeRow → List ConstructorRow → Place → Type 0
 TypeKnown ts cs p = (t : ℕ) × (row : TypeRow) × (place_type (schema ts cs) p ≡ Some t) × (slice_get ts t ≡ Some row)
 
 pub all_named : {A : Type 0} (P : A → Type 0) (xs : List A) (z : ℤ) (x : A) → AllByRecursion P xs → named xs z ≡ Some x → P x
-all_named P xs (pos n) x a h = All-slice_get P xs n x a h
+all_named P xs (pos n) x a h = AllByRecursion-slice_get P xs n x a h
 all_named P xs (negsuc n) x a h = absurd (none-some x h)
 
 field_begins : (o u : Option ConstructorRow) (i t : ℕ) → ((r : ConstructorRow) → o ≡ Some r → u ≡ Some r) → slice_get (fields_in o) i ≡ Some t → slice_get (fields_in u) i ≡ Some t

@@ -16,20 +16,15 @@ use Rattle.rules.specs.Law.{sheet_says, tree_says}
 abbrev pub answer_numbers : ℕ
 answer_numbers = 133
 
--- a pass that is out does not matter
+-- a run's grounds, with that of the side that is missing; a pass that is out does not matter
+abbrev pub run_grounds : Measure → Book → List GarmentEntry → ℕ → Ground → List Ground
+run_grounds m b es numbers missing = on ShortMemory (nat_lt numbers answer_numbers) ∷ on BadGarment (not (well_typed m (schema_of b) es)) ∷ missing ∷ []
+
 abbrev pub sheet_run_grounds : Measure → Book → List GarmentEntry → ℕ → List Ground
-sheet_run_grounds m b es numbers =
-    on ShortMemory (nat_lt numbers answer_numbers)
-    ∷ on BadGarment (not (well_typed m (schema_of b) es))
-    ∷ on NoClause (length b.clauses == 0)
-    ∷ []
+sheet_run_grounds m b es numbers = run_grounds m b es numbers (on NoClause (length b.clauses == 0))
 
 abbrev pub tree_run_grounds : Measure → Book → List GarmentEntry → ℕ → List Ground
-tree_run_grounds m b es numbers =
-    on ShortMemory (nat_lt numbers answer_numbers)
-    ∷ on BadGarment (not (well_typed m (schema_of b) es))
-    ∷ on NoNode (length b.nodes == 0)
-    ∷ []
+tree_run_grounds m b es numbers = run_grounds m b es numbers (on NoNode (length b.nodes == 0))
 
 -- an action's list is written as in a question without the guard; none and lost write nothing
 abbrev pub written_answer : Answer → List ℕ

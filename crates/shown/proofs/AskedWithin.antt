@@ -13,7 +13,7 @@ use Rattle.theory.specs.Knowledge.{Knowledge, learn}
 use Rattle.theory.specs.Explore.{differs, explore}
 use Rattle.shown.specs.ShownAnswers.{AllWithin, LookWithin, AsksWithin, Short, TreeShort, BranchesShort, heard_list}
 use Rattle.shown.proofs.EachVerdict.{explored_all}
-use Rattle.rules.proofs.Lists.{All-append}
+use Rattle.rules.proofs.Lists.{AllByRecursion-append}
 use Rattle.std.proofs.lemmas.List.Elements.{All-head, All-tail, All-cons}
 
 -- ── sheets ──
@@ -42,7 +42,7 @@ list_Within g bs h =
     let ce : List Steps = place_of 2 bs ++ place_of 3 bs in
     let bce : List Steps = place_of 1 bs ++ ce in (
       omega (arith, a.0, b.0, c.0, e.0, length-append (place_of 0 bs) bce, length-append (place_of 1 bs) ce, length-append (place_of 2 bs) (place_of 3 bs)),
-      All-append (λ p. length p ≤ 16) (place_of 0 bs) bce a.1 (All-append (λ p. length p ≤ 16) (place_of 1 bs) ce b.1 (All-append (λ p. length p ≤ 16) (place_of 2 bs) (place_of 3 bs) c.1 e.1)),
+      AllByRecursion-append (λ p. length p ≤ 16) (place_of 0 bs) bce a.1 (AllByRecursion-append (λ p. length p ≤ 16) (place_of 1 bs) ce b.1 (AllByRecursion-append (λ p. length p ≤ 16) (place_of 2 bs) (place_of 3 bs) c.1 e.1)),
     )
 
 cond_asks : (w : Bool) (x y : Run) → AsksWithin x → AsksWithin y → AsksWithin (cond w x y)
@@ -65,7 +65,7 @@ mutual
   patterns_asks (with_pattern q qs) p c i matched failed h hm hf =
       pattern_asks q (field p c i) (λ bs. patterns_run qs p c (suc i) (λ cs. matched (bs ++ cs)) failed) failed
       (omega (arith, length-append (steps_of p) (record { constructor = c; field = i } ∷ [])))
-      (λ bs b. patterns_asks qs p c (suc i) (λ cs. matched (bs ++ cs)) failed (omega arith) (λ cs d. hm (bs ++ cs) (All-append (λ x. length (steps_of x.place) ≤ 16) bs cs b d)) hf) hf
+      (λ bs b. patterns_asks qs p c (suc i) (λ cs. matched (bs ++ cs)) failed (omega arith) (λ cs d. hm (bs ++ cs) (AllByRecursion-append (λ x. length (steps_of x.place) ≤ 16) bs cs b d)) hf) hf
 
 guarded_asks : (o : Option ℕ) (x : ℕ) (r : Run) (bs : List Binding) → AsksWithin r → ShortBound bs → AsksWithin (guarded_run o x r bs)
 guarded_asks None x r bs h b = tt

@@ -2,13 +2,13 @@
 ghost use Rattle.theory.specs.ProperRuns.{RunsProper};
 ghost use Rattle.theory.specs.Theorems.{RunsAnswer};
 
-/// executing a run in the world of a garment gives the answer that rules define
+/// Executing a run in the world of a garment gives the answer that rules define.
 #[tactic(auto, using(crate::proofs::TreeAnswers::runs_answer))]
 pub fn runs_answer()
     ensures { RunsAnswer }
 {}
 
-/// a run takes only looks that may be taken with what its earlier looks have told
+/// A run takes only looks that may be taken with what its earlier looks have told.
 #[tactic(auto, using(crate::proofs::ProperRuns::runs_proper))]
 pub fn runs_proper()
     ensures { RunsProper }

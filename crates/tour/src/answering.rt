@@ -4,7 +4,7 @@ use guards::{Counting, Host, ListedAnswers, WrittenQuestion};
 // Guard 3 about field 0 of constructor 1: no; about field 1: yes.
 const LISTED: [u16; 12] = [3, 1, 1, 1, 0, 0, 3, 1, 1, 1, 1, 1];
 
-fn ask<H: Host>(rt: &HostRuntime, host: &mut H, numbers: &[u16]) -> anyhow::Result<()> {
+fn ask<H: Host>(rt: &impl Print, host: &mut H, numbers: &[u16]) -> anyhow::Result<()> {
     let Some(question) = WrittenQuestion::read(numbers) else {
         println!(rt; "  no question")?;
         return Ok(());
@@ -16,7 +16,7 @@ fn ask<H: Host>(rt: &HostRuntime, host: &mut H, numbers: &[u16]) -> anyhow::Resu
     Ok(())
 }
 
-pub fn show(rt: &HostRuntime) -> anyhow::Result<()> {
+pub fn show(rt: &impl Print) -> anyhow::Result<()> {
     println!(rt; "guards, answered from a list of two:")?;
     let mut host = Counting::new(ListedAnswers { numbers: &LISTED });
     ask(rt, &mut host, &LISTED[0..5])?;
