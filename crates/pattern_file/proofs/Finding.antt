@@ -42,7 +42,7 @@ taken p b i e n x q own put =
     ∙ ap (λ (zs : List ℤ). record { entry = e; name = n; own = signed_number (get_or b e []); put = zs }) put
 
 -- whether a tag is known
-known_name : (o : Option CallName) (e : ℕ) (n : CallName) → Ok n ≡ placed (known o) e → o ≡ Some n
+pub known_name : (o : Option CallName) (e : ℕ) (n : CallName) → Ok n ≡ placed (known o) e → o ≡ Some n
 known_name (Some m) e n q = cc
 known_name None e n q = cc
 

@@ -10,7 +10,7 @@ use Rattle.pattern_file.specs.Contents.{finished, stopped, ending, calls_from}
 use Rattle.pattern_file.specs.Names.{name_of}
 use Rattle.pattern_file.specs.Readers.{call_or, entries_with, rest_at, run_at}
 
-length-entries_with : (t : List ℕ) (b : List (List ℕ)) → length b ≡ length t → length (entries_with t b) ≡ length t
+pub length-entries_with : (t : List ℕ) (b : List (List ℕ)) → length b ≡ length t → length (entries_with t b) ≡ length t
 length-entries_with [] b h = refl
 length-entries_with (x ∷ t) [] h = absurd (omega arith)
 length-entries_with (x ∷ t) (n ∷ b) h = ap suc (length-entries_with t b (omega arith))
@@ -37,12 +37,12 @@ module _ (t : List ℕ) (b : List (List ℕ)) (same : length b ≡ length t) whe
       at_drop_more (calls_from n put) (entries_with t b) i none (omega (arith, length-entries_with t b same))
       ∙ ap (λ (e : Entry). calls_from n put (e ∷ drop (i + 1) (entries_with t b))) (entry_at t b i none same h)
 
-  run_start : (i : ℕ) → run_at t b i i ≡ rest_at t b i
+  pub run_start : (i : ℕ) → run_at t b i i ≡ rest_at t b i
   unfolding run_at rest_at
   run_start i = let none : i - i ≡ 0 = omega arith in ap (λ (k : ℕ). calls_from i (signed_numbers (take k (drop i b))) (drop i (entries_with t b))) none
 
   -- a number is put
-  run_more : (i e : ℕ) → i ≤ e → e < length t → get_or t e 0 ≡ 0 → run_at t b i (e + 1) ≡ run_at t b i e
+  pub run_more : (i e : ℕ) → i ≤ e → e < length t → get_or t e 0 ≡ 0 → run_at t b i (e + 1) ≡ run_at t b i e
   unfolding run_at
   run_more i e l h z =
       let before = signed_numbers (take (e - i) (drop i b)) in

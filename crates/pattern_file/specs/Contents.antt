@@ -1,6 +1,6 @@
 -- What a file says: its entries, and the calls that they make.
-use Rattle.std.specs.Prelude.{ℕ, ◌+◌, ◌*◌, Bool, cond, ◌&&◌, List, [], ◌∷◌, ◌++◌, map, length, take, drop, ℤ, Some, None, Ok, Err, Option, Result, ◌==◌, nat_le}
-use Rattle.std.specs.List.{flat_map}
+use Rattle.std.specs.Prelude.{◌≡◌, ℕ, ◌+◌, ◌*◌, ◌<◌, ◌≤◌, IfSome, Bool, cond, ◌&&◌, List, [], ◌∷◌, ◌++◌, map, length, take, drop, ℤ, Some, None, Ok, Err, Option, Result, ◌==◌, nat_le}
+use Rattle.std.specs.List.{All, flat_map}
 use Rattle.pattern_file.specs.declared.faults.FormatFault.{FormatFault}
 use Rattle.pattern_file.specs.declared.faults.FormatFault.TheVariants.{Length, UnknownTag, NumbersLeft}
 use Rattle.pattern_file.specs.declared.placed.Placed.{Placed}
@@ -108,3 +108,19 @@ after c = elim c.calls [ [] ↦ c | x ∷ xs ↦ record { calls = xs; stop = c.s
 -- how many calls there are, or the fault
 abbrev pub counted : Contents → Result ℕ (Placed FormatFault)
 counted c = elim c.stop [ Some f ↦ Err f | None ↦ Ok (length c.calls) ]
+
+-- a call that one of n entries makes, with numbers that others before it put
+abbrev pub CallWithin : ℕ → CallAt → Type 0
+CallWithin n k = (k.entry < n) × (length k.put < n)
+
+-- calls that entries from e on make, before entry n: each takes an entry for every number put for it, and then its own
+abbrev pub CallsFrom : ℕ → ℕ → List CallAt → Type 0
+CallsFrom n e [] = e ≤ n
+CallsFrom n e (k ∷ ks) = (k.entry ≡ e + length k.put) × CallsFrom n (k.entry + 1) ks
+
+-- what n entries can say at most: so many calls, each made by one of them, one after another, and a fault past the last at the latest
+pub record WithinEntries (n : ℕ) (c : Contents) : Type 0 where
+  pub few : length c.calls ≤ n
+  pub calls : All (CallWithin n) c.calls
+  pub walked : (e : ℕ) × CallsFrom n e c.calls
+  pub stop : IfSome c.stop (λ f. f.entry ≤ n)

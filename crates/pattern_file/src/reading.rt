@@ -1,6 +1,6 @@
 // Reading a file call by call.
 ghost use Rattle.std.specs.Prelude.{◌≡◌, ◌≤◌, length};
-ghost use Rattle.pattern_file.specs.Contents.{contents, first, after, counted};
+ghost use Rattle.pattern_file.specs.Contents.{max_entries, WithinEntries, contents, first, after, counted};
 
 use crate::calls::PlacedCall;
 use crate::faults::{FileFault, FormatFault};
@@ -35,6 +35,16 @@ impl<'a> Reader<'a> {
     {
         Reader {
             unread: Unread::open(bytes),
+        }
+    }
+
+    /// What is known of every reader, whoever opened it: what it has left are calls of at most 5,000 entries, one after
+    /// another, each with an entry for every number put for it, and a fault at entry 5,000 at the latest. It does nothing.
+    pub fn within_entries(&self)
+        ensures { WithinEntries max_entries self.now }
+    {
+        if let Ok(unread) = &self.unread {
+            unread.within_entries();
         }
     }
 

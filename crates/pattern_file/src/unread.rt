@@ -2,7 +2,7 @@
 ghost use Rattle.std.specs.Prelude.{◌≡◌, ◌-◌, ◌*◌, ◌<◌, ◌≤◌, length, drop, if◌then◌else◌, Ok as Fine, Err as Refused, ◌≢◌, slice_index};
 ghost use Rattle.std.specs.List.{AllWithin};
 ghost use Rattle.pattern_file.specs.declared.faults.FormatFault.TheVariants.{Length as BadLength};
-ghost use Rattle.pattern_file.specs.Contents.{announced, well_sized, contents, first, after};
+ghost use Rattle.pattern_file.specs.Contents.{announced, max_entries, WithinEntries, well_sized, contents, first, after};
 
 use crate::calls::{Call, Parts, PlacedCall};
 use crate::entries::MOST_ENTRIES;
@@ -76,6 +76,11 @@ impl<'a> Unread<'a> {
         };
         Call::new(name, Parts { own, put })
     }
+
+    /// For proofs: what is left is within the entries of a file.
+    pub(crate) fn within_entries(&self)
+        ensures { WithinEntries max_entries (rest_of self.now) }
+    {}
 
     /// The next call with its entry; nothing at the end. A fault stays.
     pub(crate) fn next_call(&mut self) -> Result<Option<PlacedCall<'a>>, FileFault>
