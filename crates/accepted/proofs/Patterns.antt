@@ -8,12 +8,12 @@ use Rattle.pattern_file.specs.declared.names.CallName.TheVariants as call
 use Rattle.rules.specs.declared.rows.TypeRow.{TypeRow}
 use Rattle.rules.specs.declared.rows.TypeRow.TheVariants.{Choice, Measured}
 use Rattle.rules.specs.declared.rows.ConstructorRow.{ConstructorRow}
-use Rattle.rules.specs.Tables.{natural, naturals, named}
+use Rattle.rules.specs.Tables.{natural, naturals, up_to_four, named}
 use Rattle.rules.specs.Book.{Book, Schema, schema_of, fields_in, fields_of, owner_in, owner_of, is_choice}
 use Rattle.rules.specs.Sheets.{Pattern, Patterns, any, bind, build, either, gauge, no_patterns, with_pattern, patterns_at, pattern_from, patterns_of, levels, pattern_type}
 use Rattle.rules.specs.Rows.{part, any_row, bind_row, build_row, either_row, gauge_row}
 use Rattle.rules.specs.Grounds.{unknown, any_unknown, row_of, type_of_pattern, parts_differ, differ, pattern_at, new_pattern, building_grounds}
-use Rattle.rules.proofs.Lists.{AllByRecursion-slice_get, Clear, Begins, slice_get-Begins, known, length-unfolded, AllByRecursion-get_or}
+use Rattle.rules.proofs.Lists.{AllByRecursion-slice_get, Clear, Begins, slice_get-Begins, known, length-unfolded, length-naturals, up_to_four_all, AllByRecursion-get_or}
 use Rattle.theory.specs.Runs.{PatternFits, PatternsFit}
 use Rattle.accepted.proofs.Known.{known_under, named_meaning, not_different}
 use Rattle.std.proofs.lemmas.Option.{none-some}
@@ -118,6 +118,9 @@ module _ (m : Measure) (b : Book) (fitting : AllByRecursion (Fitted (schema_of b
       = sym (ap (λ (o : Option ConstructorRow). is_some o && not (eqb (length put) (length (fields_in o)))) r.1) ∙ c.0 in
       let long = eqb-true (length put) (length r.0.fields) (not-false (eqb (length put) (length r.0.fields)) wrong) in
       let differs : parts_differ b put r.0.fields ≡ false = sym (ap (λ (o : Option ConstructorRow). parts_differ b put (fields_in o)) r.1) ∙ c.1.1.0 in
+      let few = f.few in
+      let count = length-naturals put in
+      let numbers = up_to_four_all (naturals put) (omega arith) in
       let parts = parts_fit put r.0.fields long k.1 differs in
       let owner : owner_of (schema_of b) (natural own) ≡ Some r.0.owner = ap owner_in at in
       let flat = ltb-false 16 (levels (new_pattern b (build_row put own))) c.1.1.1.1.0 in
@@ -129,7 +132,8 @@ module _ (m : Measure) (b : Book) (fitting : AllByRecursion (Fitted (schema_of b
         fits = (
           f.choice,
           owner,
-          subst (λ ts. PatternsFit (schema_of b) ts (patterns_at (patterns_of b.patterns) (naturals put))) (sym (ap fields_in at)) parts,
+          subst (λ ts. PatternsFit (schema_of b) ts (patterns_at (patterns_of b.patterns) (up_to_four (naturals put)))) (sym (ap fields_in at))
+              (subst (λ ns. PatternsFit (schema_of b) r.0.fields (patterns_at (patterns_of b.patterns) ns)) (sym numbers) parts),
         );
         flat = omega arith;
       }

@@ -1,7 +1,7 @@
 -- In every workbook that calls can make, each tree fits, names listed places only, and keeps its limits.
-use Rattle.std.proofs.Common.{◌≡◌, ℕ, zero, suc, ◌≤◌, true, false, ltb, List, [], ◌∷◌, ◌++◌, map, length, get_or, take, drop, ℤ, Some, None, Option, sym, refl, ap, ◌∙◌, subst, arith}
+use Rattle.std.proofs.Common.{◌≡◌, ℕ, zero, suc, ◌≤◌, true, false, List, [], ◌∷◌, ◌++◌, map, length, get_or, take, drop, ℤ, Some, None, Option, sym, refl, ap, ◌∙◌, subst, arith}
 use Rattle.std.specs.List.{AllByRecursion, slice_get}
-use Rattle.std.proofs.lemmas.List.{length-append, length-drop}
+use Rattle.std.proofs.lemmas.List.{length-append, length-take}
 use Rattle.std.proofs.lemmas.Bool.{ltb-false, or_parts, and_from}
 use Rattle.measure.specs.Measure.{Measure}
 use Rattle.guards.specs.Questions.{and_then}
@@ -12,7 +12,7 @@ use Rattle.rules.specs.declared.rows.PlaceRow.{PlaceRow}
 use Rattle.rules.specs.declared.rows.PairRow.{PairRow}
 use Rattle.rules.specs.declared.rows.NodeRow.{NodeRow}
 use Rattle.rules.specs.declared.rows.NodeRow.TheVariants.{Leaf, Fail, Never, Switch, Test, Ask}
-use Rattle.rules.specs.Tables.{unfolded, natural, naturals, named}
+use Rattle.rules.specs.Tables.{unfolded, natural, naturals, up_to_four, named}
 use Rattle.rules.specs.Book.{Book, Schema, is_choice, is_measured}
 use Rattle.rules.specs.Garments.{Place, whole, place_type, steps_of}
 use Rattle.rules.specs.Rows.{part, optional, leaf_row, pair_rows, switch_row, test_row, ask_row}
@@ -20,7 +20,7 @@ use Rattle.rules.specs.Trees.{Tree, Branches, fail, switch, places_from, places_
 use Rattle.rules.specs.Grounds.{unknown, row_of, new_tree, building_grounds}
 use Rattle.rules.specs.Calls.{Order}
 use Rattle.rules.specs.Files.{node_order}
-use Rattle.rules.proofs.Lists.{Clear, Clear-from_none, known, unfolded-push, length-naturals, AllByRecursion-push, AllByRecursion-weaker, take-drop-append}
+use Rattle.rules.proofs.Lists.{Clear, Clear-from_none, known, unfolded-push, AllByRecursion-push, AllByRecursion-weaker, take-drop-append}
 use Rattle.rules.proofs.Chains.{Chain}
 use Rattle.rules.proofs.Wider.{tables, TypeKnown, all_named}
 use Rattle.rules.proofs.Sound.{Held}
@@ -93,12 +93,8 @@ module _ (m : Measure) (ts : List TypeRow) (cs : List ConstructorRow) (ps : List
   length_at [] = refl
   length_at (n ∷ ns) = ap suc (length_at ns)
 
-  few_at : (put : List ℤ) → length put ≤ 6 → length (places_at places (naturals (drop 2 put))) ≤ 4
-  few_at put h =
-      let e = length_at (naturals (drop 2 put)) in
-      let n = length-naturals (drop 2 put) in
-      let k = length-drop 2 put in
-      omega arith
+  few_at : (l : List ℕ) → length (places_at places (up_to_four l)) ≤ 4
+  few_at l = omega (arith, length_at (up_to_four l), length-take 4 l)
 
   -- an unknown number is taken for a fail
   tree_at : (trees : List Tree) (n : ℕ) → AllByRecursion (TreeKept d table) trees → TreeKept d table (get_or trees n fail)
@@ -137,7 +133,7 @@ module _ (m : Measure) (ts : List TypeRow) (cs : List ConstructorRow) (ps : List
     b = tables ts cs ps ns prs
 
     leaf_kept : (put : List ℤ) (own : ℤ) → TreeKept d table (new_tree b [] (leaf_row put own))
-    leaf_kept put own = let l = list_kept (naturals put) in record { fits = l.fits; short = tt; listed = l.listed; shallow = omega arith }
+    leaf_kept put own = let l = list_kept (up_to_four (naturals put)) in record { fits = l.fits; short = tt; listed = l.listed; shallow = omega arith }
 
     switch_kept : (put : List ℤ) (own : ℤ) → Clear (building_grounds m b call.Switch put own) → TreeKept d table (new_tree b (pair_rows (drop 1 put)) (switch_row (length prs) put own))
     switch_kept put own c =
@@ -173,14 +169,13 @@ module _ (m : Measure) (ts : List TypeRow) (cs : List ConstructorRow) (ps : List
 
     ask_kept : (put : List ℤ) (own : ℤ) → Clear (building_grounds m b call.Ask put own) → TreeKept d table (new_tree b [] (ask_row put own))
     ask_kept put own c =
-        let l = list_kept (naturals (drop 2 put)) in
-        let few = ltb-false 6 (length put) (or_parts (ltb (length put) 2) (ltb 6 (length put)) c.0).1 in
+        let l = list_kept (up_to_four (naturals (drop 2 put))) in
         let yes_tree = tree_at (nodes_of b) (natural (part put 0)) trees in
         let no_tree = tree_at (nodes_of b) (natural (part put 1)) trees in
         let shallow = ltb-false 32 (depth (new_tree b [] (ask_row put own))) c.1.1.0 in
         record {
           fits = (l.fits, yes_tree.fits, no_tree.fits);
-          short = ((few_at put few, l.short), (yes_tree.short, no_tree.short));
+          short = ((few_at (naturals (drop 2 put)), l.short), (yes_tree.short, no_tree.short));
           listed = and_from _ _ l.listed (and_from _ _ yes_tree.listed no_tree.listed);
           shallow = omega arith;
         }

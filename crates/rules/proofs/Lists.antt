@@ -3,10 +3,10 @@ use Rattle.std.proofs.Common.{◌≡◌, ℕ, zero, suc, ◌+◌, ◌<◌, ◌�
 use Rattle.std.specs.List.{AllByRecursion, slice_get}
 use Rattle.std.proofs.lemmas.Bool.{true≢false, or_parts, or_from}
 use Rattle.rules.specs.declared.refusal.Refusal.{Refusal}
-use Rattle.rules.specs.Tables.{unfolded, natural, naturals, named}
+use Rattle.rules.specs.Tables.{unfolded, natural, naturals, up_to_four, named}
 use Rattle.rules.specs.Grounds.{Ground, first_ground, unknown, any_unknown}
 use Rattle.std.proofs.lemmas.Option.{none-some, slice_get-get_or}
-use Rattle.std.proofs.lemmas.List.{length_push, length-drop, drop-append-le, take-append-le}
+use Rattle.std.proofs.lemmas.List.{length_push, length-drop, take_all, drop-append-le, take-append-le}
 
 -- ── what holds of each of a list ──
 
@@ -127,3 +127,12 @@ length-unfolded make before (r ∷ rows) =
 pub length-naturals : (zs : List ℤ) → length (naturals zs) ≡ length zs
 length-naturals [] = refl
 length-naturals (z ∷ zs) = ap suc (length-naturals zs)
+
+pub up_to_four_all : (l : List ℕ) → length l ≤ 4 → up_to_four l ≡ l
+up_to_four_all l h = take_all 4 l h
+
+-- up to four known numbers come back from a row
+pub numbers_known : {A : Type 0} (xs : List A) (zs : List ℤ) → length zs ≤ 4 → any_unknown xs zs ≡ false → map pos (up_to_four (naturals zs)) ≡ zs
+numbers_known xs zs l h =
+    let e = length-naturals zs in
+    ap (map pos) (up_to_four_all (naturals zs) (omega arith)) ∙ naturals_known xs zs h

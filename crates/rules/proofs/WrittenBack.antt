@@ -6,13 +6,13 @@ use Rattle.measure.specs.Measure.{Measure}
 use Rattle.pattern_file.specs.declared.names.CallName.TheVariants as call
 use Rattle.rules.specs.declared.rows.PairRow.{PairRow}
 use Rattle.rules.specs.declared.rows.NodeRow.TheVariants.{Fail, Never}
-use Rattle.rules.specs.Tables.{natural, naturals, under, named}
+use Rattle.rules.specs.Tables.{natural, naturals, up_to_four, under, named}
 use Rattle.rules.specs.Book.{Book, fields_in}
 use Rattle.rules.specs.Rows.{optional, type_row, constructor_row, place_row, leaf_row, pair_rows, switch_row, test_row, ask_row}
 use Rattle.rules.specs.Trees.{places_of}
 use Rattle.rules.specs.Grounds.{unknown, any_unknown, is_minus_one, is_code, evens, odds, building_grounds}
 use Rattle.rules.specs.Files.{order, or_minus_one, type_order, constructor_order, place_order, pair_numbers, node_order}
-use Rattle.rules.proofs.Lists.{Clear, natural_known, naturals_known}
+use Rattle.rules.proofs.Lists.{Clear, natural_known, numbers_known}
 
 -- the number of parts that a call asks for
 parts_are : (put : List ℤ) (k : ℕ) → not (eqb (length put) k) ≡ false → length put ≡ k
@@ -38,7 +38,7 @@ type_back m b (z ∷ zs) own c = let e = parts_are (z ∷ zs) 0 c.0 in absurd (o
 pub constructor_back : (m : Measure) (b : Book) (put : List ℤ) (own : ℤ) → Clear (building_grounds m b call.Constructor put own) → constructor_order (constructor_row put own) ≡ order call.Constructor put own
 constructor_back m b put own c =
     let k = or_parts (unknown b.types own) (any_unknown b.types put) c.1.0 in
-    ap₂ (order call.Constructor) (naturals_known b.types put k.1) (natural_known b.types own k.0)
+    ap₂ (order call.Constructor) (numbers_known b.types put (ltb-false 4 (length put) c.0) k.1) (natural_known b.types own k.0)
 
 pub place_back : (m : Measure) (b : Book) (put : List ℤ) (own : ℤ) → Clear (building_grounds m b call.Place put own) → place_order (place_row put own) ≡ order call.Place put own
 place_back m b [] own c = let e = parts_are [] 2 c.0 in absurd (omega arith)
@@ -55,7 +55,7 @@ place_back m b (p ∷ s ∷ z ∷ zs) own c = let e = parts_are (p ∷ s ∷ z �
 pub leaf_back : (m : Measure) (b : Book) (pairs : List PairRow) (put : List ℤ) (own : ℤ) → Clear (building_grounds m b call.Leaf put own) → node_order pairs (leaf_row put own) ≡ order call.Leaf put own
 leaf_back m b pairs put own c =
     let k = or_parts (not (is_code own)) (any_unknown (places_of b) put) c.1.0 in
-    ap₂ (order call.Leaf) (naturals_known (places_of b) put k.1) (natural-under 65536 own k.0)
+    ap₂ (order call.Leaf) (numbers_known (places_of b) put (ltb-false 4 (length put) c.0) k.1) (natural-under 65536 own k.0)
 
 pub fail_back : (m : Measure) (b : Book) (pairs : List PairRow) (put : List ℤ) (own : ℤ) → Clear (building_grounds m b call.Fail put own) → node_order pairs Fail ≡ order call.Fail put own
 fail_back m b pairs [] own c = ap (order call.Fail []) (zero_under own c.1.0)
@@ -117,5 +117,5 @@ ask_back m b pairs (y ∷ n ∷ zs) own c =
     let k = or_parts (not (is_code own)) ((unknown b.nodes y || unknown b.nodes n) || any_unknown (places_of b) zs) c.1.0 in
     let j = or_parts (unknown b.nodes y || unknown b.nodes n) (any_unknown (places_of b) zs) k.1 in
     let i = or_parts (unknown b.nodes y) (unknown b.nodes n) j.0 in
-    ap₂ (λ u v. order call.Ask (u ∷ v ∷ map pos (naturals zs)) (pos (natural own))) (natural_known b.nodes y i.0) (natural_known b.nodes n i.1)
-    ∙ ap₂ (λ u v. order call.Ask (y ∷ n ∷ u) v) (naturals_known (places_of b) zs j.1) (natural-under 65536 own k.0)
+    ap₂ (λ u v. order call.Ask (u ∷ v ∷ map pos (up_to_four (naturals zs))) (pos (natural own))) (natural_known b.nodes y i.0) (natural_known b.nodes n i.1)
+    ∙ ap₂ (λ u v. order call.Ask (y ∷ n ∷ u) v) (numbers_known (places_of b) zs (omega arith) j.1) (natural-under 65536 own k.0)

@@ -10,7 +10,7 @@ use Rattle.rules.specs.declared.rows.PlaceRow.{PlaceRow}
 use Rattle.rules.specs.declared.rows.PairRow.{PairRow}
 use Rattle.rules.specs.declared.rows.NodeRow.{NodeRow}
 use Rattle.rules.specs.declared.rows.NodeRow.TheVariants.{Leaf, Switch, Test, Ask}
-use Rattle.rules.specs.Tables.{natural, naturals}
+use Rattle.rules.specs.Tables.{natural, naturals, up_to_four}
 
 -- a put number by its place on the list; where one is missing, the number of parts is refused first
 abbrev pub part : List ℤ → ℕ → ℤ
@@ -27,7 +27,7 @@ type_row (pos s) = Measured s
 type_row (negsuc n) = Choice
 
 abbrev pub constructor_row : List ℤ → ℤ → ConstructorRow
-constructor_row put own = record { owner = natural own; fields = naturals put }
+constructor_row put own = record { owner = natural own; fields = up_to_four (naturals put) }
 
 abbrev pub any_row : ℤ → PatternRow
 any_row own = Any (natural own)
@@ -36,7 +36,7 @@ abbrev pub bind_row : List ℤ → ℤ → PatternRow
 bind_row put own = Bind (natural own) (natural (part put 0))
 
 abbrev pub build_row : List ℤ → ℤ → PatternRow
-build_row put own = Build (natural own) (naturals put)
+build_row put own = Build (natural own) (up_to_four (naturals put))
 
 abbrev pub either_row : List ℤ → ℤ → PatternRow
 either_row put own = Either (natural (part put 0)) (natural own)
@@ -51,7 +51,7 @@ abbrev pub place_row : List ℤ → ℤ → PlaceRow
 place_row put own = record { parent = natural (part put 0); step = record { constructor = natural (part put 1); field = natural own } }
 
 abbrev pub leaf_row : List ℤ → ℤ → NodeRow
-leaf_row put own = Leaf (natural own) (naturals put)
+leaf_row put own = Leaf (natural own) (up_to_four (naturals put))
 
 -- constructor and node by turns
 abbrev pub pair_rows : List ℤ → List PairRow
@@ -67,4 +67,4 @@ abbrev pub test_row : List ℤ → ℤ → NodeRow
 test_row put own = Test (natural own) (part put 0) (natural (part put 1)) (natural (part put 2))
 
 abbrev pub ask_row : List ℤ → ℤ → NodeRow
-ask_row put own = Ask (natural own) (naturals (drop 2 put)) (natural (part put 0)) (natural (part put 1))
+ask_row put own = Ask (natural own) (up_to_four (naturals (drop 2 put))) (natural (part put 0)) (natural (part put 1))

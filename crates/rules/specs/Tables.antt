@@ -1,5 +1,5 @@
 -- Tables whose rows name earlier rows by number, and the meaning of each row by the meanings before it.
-use Rattle.std.specs.Prelude.{ℕ, Bool, false, List, [], ◌∷◌, ◌++◌, ℤ, pos, negsuc, None, Option, nat_lt}
+use Rattle.std.specs.Prelude.{ℕ, Bool, false, List, [], ◌∷◌, ◌++◌, take, ℤ, pos, negsuc, None, Option, nat_lt}
 use Rattle.std.specs.List.{slice_get}
 
 -- the meanings of rows, after the meanings of those before them: each row is made of what stands before it
@@ -15,6 +15,10 @@ natural (negsuc n) = 0
 abbrev pub naturals : List ℤ → List ℕ
 naturals [] = []
 naturals (z ∷ zs) = natural z ∷ naturals zs
+
+-- the numbers that a row holds: the first four, since a call that puts more is refused and makes no row
+abbrev pub up_to_four : List ℕ → List ℕ
+up_to_four l = take 4 l
 
 -- whether z is a number from 0 to n - 1
 abbrev pub under : ℕ → ℤ → Bool

@@ -47,16 +47,18 @@ impl UpToFour {
         })
     }
 
-    /// The numbers as a slice.
+    /// The numbers as a slice, of at most four.
     pub fn as_slice(&self) -> &[u16]
-        ensures { result.now ≡ self.now }
+        ensures held { result.now ≡ self.now }
+        ensures few { length result.now ≤ 4 }
     {
         &self.numbers[..self.len()]
     }
 
-    /// How many numbers there are.
+    /// How many numbers there are, at most four.
     pub fn len(&self) -> usize
-        ensures { result ≡ length self.now }
+        ensures value { result ≡ length self.now }
+        ensures few { result ≤ 4 }
     {
         usize::from(self.count)
     }
