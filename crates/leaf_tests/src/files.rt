@@ -1,8 +1,8 @@
 // Pattern files: a short one, files at the limits, and damaged files.
 use file_listing::listing;
 use pattern_file::{
-    AtEntry, CallName, Entry, FileFault, FormatFault, MOST_BYTES, Placed, Reader, WriteRefusal,
-    count_calls, write_file,
+    CallName, Entry, FileFault, FormatFault, MOST_BYTES, Placed, Reader, WriteRefusal, count_calls,
+    write_file,
 };
 use std::alloc::Global;
 use std::test::Fail;
@@ -19,7 +19,7 @@ const FIVE: [Entry; 5] = [
 const FAIL_NODE: Entry = Entry { tag: 11, number: 0 };
 
 fn file_of(heap: Global, entries: &[Entry]) -> Result<Vec<u8>, Fail> {
-    let mut bytes = vec![in heap; 0u8; MOST_BYTES]?;
+    let mut bytes = vec![in heap; 0u8; 45_004]?;
     let length = write_file(bytes.as_mut_slice(), entries)?;
     bytes.truncate(length);
     Ok(bytes)
@@ -35,7 +35,7 @@ fn listed(heap: Global, bytes: &[u8], wanted: &str) -> Result<(), Fail> {
 }
 
 fn fault(entry: usize, fault: FormatFault) -> Result<usize, FileFault> {
-    Err(fault).at(entry)
+    Err(Placed { entry, item: fault })
 }
 
 #[test]
@@ -130,7 +130,7 @@ fn put_numbers_go_with_their_call(rt: HostRuntime) -> Result<(), Fail> {
 fn at_most_5000_entries(rt: HostRuntime) -> Result<(), Fail> {
     let mut entries = vec![in rt.alloc(); FAIL_NODE; 5_000]?;
     let bytes = file_of(rt.alloc(), entries.as_slice())?;
-    assert!(rt; bytes.len() == 45_004);
+    assert!(rt; bytes.len() == 45_004 && MOST_BYTES == 45_004);
     assert_eq!(rt; count_calls(bytes.as_slice()), Ok(5_000));
     entries.push(FAIL_NODE)?;
     let mut out = vec![in rt.alloc(); 7u8; 45_013]?;

@@ -3,6 +3,7 @@ use Rattle.std.proofs.Common.{◌≡◌, ℕ, zero, suc, ◌^◌, ◌<◌, Bool,
 use Rattle.std.proofs.Math.Decide.{ℕ_discrete}
 use Rattle.std.proofs.Math.Facts.{Fits-of_z}
 use Rattle.std.proofs.lemmas.Bool.{false≢true, or_left, or_right}
+use Rattle.measure.specs.Measure.{Measure, Lawful}
 use Rattle.theory.specs.Inhabited.{any_of, any_atom}
 
 some_below : (n : ℕ) (test : ℕ → Bool) (k : ℕ) → k < n → test k ≡ true → any_of n test ≡ true
@@ -46,3 +47,11 @@ any_none test never = go (any_atom test) refl
     go : (b : Bool) → any_atom test ≡ b → b ≡ false
     go true e = let r = any_to test e in absurd (never r.0 r.1)
     go false e = refl
+
+-- a sort that is served has an atom; one below 65,536 that is not served has none
+pub any_served : (m : Measure) → Lawful m → (s : ℕ) → s < 65536 → any_atom (m.atom s) ≡ m.serves s
+any_served m law s small = go (m.serves s) refl
+  where
+    go : (b : Bool) → m.serves s ≡ b → any_atom (m.atom s) ≡ b
+    go true e = let r = law.some_atom s e in any_from (m.atom s) r.0 (law.atom_fits s r.0 r.1) r.1
+    go false e = any_none (m.atom s) (λ a h. false≢true (sym (law.no_atom s a small e) ∙ h))
