@@ -34,47 +34,27 @@ few_from n put (e ∷ es) =
     let one = few_from (n + 1) (put ++ (e.number ∷ [])) es in
     few_ways (eqb e.tag 0) _ _ (suc (length es)) (omega arith) (few_named (name_of e.tag) n e.number put _ (length es) (few_from (n + 1) [] es))
 
--- of k of m entries: at most k calls, each within the m
+-- of m entries, of which entry e is the first that is left: calls one after another, each within the m
 abbrev Said : ℕ → ℕ → Contents → Type 0
-Said m k c = (length c.calls ≤ k) × All (CallWithin m) c.calls × IfSome c.stop (λ f. f.entry ≤ m)
+Said m e c = All (CallWithin m) c.calls × CallsFrom m e c.calls × IfSome c.stop (λ f. f.entry ≤ m)
 
-said_named : (o : Option CallName) (m n : ℕ) (z : ℤ) (put : List ℤ) (c : Contents) (k : ℕ) → n < m → length put ≤ n → Said m k c → Said m (suc k) (call_or o n z put c)
-said_named (Some x) m n z put c k h l s = (omega (arith, s.0), All-cons (CallWithin m) _ c.calls (h, omega arith) s.1, s.2)
-said_named None m n z put c k h l s = (omega arith, All-nil (CallWithin m), omega arith)
+said_named : (o : Option CallName) (m n e : ℕ) (z : ℤ) (put : List ℤ) (c : Contents) → n ≡ e + length put → n < m → Said m (n + 1) c → Said m e (call_or o n z put c)
+said_named (Some x) m n e z put c h l s = (All-cons (CallWithin m) _ c.calls (l, omega arith) s.0, (h, s.1), s.2)
+said_named None m n e z put c h l s = (All-nil (CallWithin m), omega arith, omega arith)
 
-said_ending : (m n : ℕ) (put : List ℤ) → n ≤ m → Said m 0 (ending n put)
-said_ending m n [] h = (omega arith, All-nil (CallWithin m), tt)
-said_ending m n (z ∷ zs) h = (omega arith, All-nil (CallWithin m), h)
+said_ending : (m n e : ℕ) (put : List ℤ) → n ≡ e + length put → n ≤ m → Said m e (ending n put)
+said_ending m n e [] h l = (All-nil (CallWithin m), omega arith, tt)
+said_ending m n e (z ∷ zs) h l = (All-nil (CallWithin m), omega arith, l)
 
-said_ways : (q : Bool) (m k : ℕ) (c d : Contents) → Said m k c → Said m k d → Said m k (cond q c d)
-said_ways true m k c d h l = h
-said_ways false m k c d h l = l
+said_ways : (q : Bool) (m e : ℕ) (c d : Contents) → Said m e c → Said m e d → Said m e (cond q c d)
+said_ways true m e c d h l = h
+said_ways false m e c d h l = l
 
-said_from : (m n : ℕ) (put : List ℤ) (es : List Entry) → n + length es ≤ m → length put ≤ n → Said m (length es) (calls_from n put es)
-said_from m n put [] h l = said_ending m n put (omega arith)
-said_from m n put (e ∷ es) h l =
-    let one = said_from m (n + 1) (put ++ (e.number ∷ [])) es (omega arith) (omega (arith, length-append put (e.number ∷ []))) in
-    said_ways (eqb e.tag 0) m (suc (length es)) _ _ (omega (arith, one.0), one.1, one.2)
-    (said_named (name_of e.tag) m n e.number put _ (length es) (omega arith) l (said_from m (n + 1) [] es (omega arith) (omega arith)))
-
--- entry e stands before the numbers that are put for the next call
-walked_named : (o : Option CallName) (m n e : ℕ) (z : ℤ) (put : List ℤ) (c : Contents) → n ≡ e + length put → n ≤ m → CallsFrom m (n + 1) c.calls → CallsFrom m e (call_or o n z put c).calls
-walked_named (Some x) m n e z put c h l w = (h, w)
-walked_named None m n e z put c h l w = omega arith
-
-walked_ending : (m n e : ℕ) (put : List ℤ) → e ≤ m → CallsFrom m e (ending n put).calls
-walked_ending m n e [] h = h
-walked_ending m n e (z ∷ zs) h = h
-
-walked_ways : (q : Bool) (m e : ℕ) (c d : Contents) → CallsFrom m e c.calls → CallsFrom m e d.calls → CallsFrom m e (cond q c d).calls
-walked_ways true m e c d h l = h
-walked_ways false m e c d h l = l
-
-walked_from : (m n e : ℕ) (put : List ℤ) (es : List Entry) → n ≡ e + length put → n + length es ≤ m → CallsFrom m e (calls_from n put es).calls
-walked_from m n e put [] h l = walked_ending m n e put (omega arith)
-walked_from m n e put (x ∷ es) h l =
-    walked_ways (eqb x.tag 0) m e _ _ (walked_from m (n + 1) e (put ++ (x.number ∷ [])) es (omega (arith, length-append put (x.number ∷ []))) (omega arith))
-    (walked_named (name_of x.tag) m n e x.number put _ h (omega arith) (walked_from m (n + 1) (n + 1) [] es (omega arith) (omega arith)))
+said_from : (m n e : ℕ) (put : List ℤ) (es : List Entry) → n ≡ e + length put → n + length es ≤ m → Said m e (calls_from n put es)
+said_from m n e put [] h l = said_ending m n e put h (omega arith)
+said_from m n e put (x ∷ es) h l =
+    said_ways (eqb x.tag 0) m e _ _ (said_from m (n + 1) e (put ++ (x.number ∷ [])) es (omega (arith, length-append put (x.number ∷ []))) (omega arith))
+    (said_named (name_of x.tag) m n e x.number put _ h (omega arith) (said_from m (n + 1) (n + 1) [] es (omega arith) (omega arith)))
 
 -- what is left from one of at most m entries on
 pub rest_within : (m i : ℕ) (t : List ℕ) (b : List (List ℕ)) → length b ≡ length t → i ≤ length t → length t ≤ m → WithinEntries m (rest_at t b i)
@@ -82,8 +62,8 @@ unfolding rest_at
 rest_within m i t b same h l =
     let es = drop i (entries_with t b) in
     let count : length es ≡ length t - i = omega (arith, length-drop i (entries_with t b), length-entries_with t b same) in
-    let s = said_from m i [] es (omega (arith, count)) (omega arith) in
-    record { few = omega (arith, s.0, count); calls = s.1; walked = (i, walked_from m i i [] es (omega arith) (omega (arith, count))); stop = s.2 }
+    let s = said_from m i i [] es (omega arith) (omega (arith, count)) in
+    record { few = omega (arith, few_from i [] es, count); calls = s.0; walked = (i, s.1); stop = s.2 }
 
 few_sized : (q : Bool) (es : List Entry) → (q ≡ true → length es ≤ 5000) → length (calls_in (cond q (Some es) None)).calls ≤ 5000
 few_sized true es h = let k = h refl in omega (arith, few_from 0 [] es)
