@@ -42,7 +42,7 @@ abbrev pub either_row : List ℤ → ℤ → PatternRow
 either_row put own = Either (natural (part put 0)) (natural own)
 
 abbrev pub gauge_row : List ℤ → ℤ → PatternRow
-gauge_row put own = Gauge (record { test = part put 0; wanted = natural (part put 1) == 1 }) (natural own)
+gauge_row put own = Gauge (natural own) (record { test = part put 0; wanted = natural (part put 1) == 1 })
 
 abbrev pub clause_row : List ℤ → ℤ → ClauseRow
 clause_row put own = record { pattern = natural (part put 0); guard = optional (part put 1); action = natural own }

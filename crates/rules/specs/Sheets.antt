@@ -33,7 +33,7 @@ pattern_from before (Any t) = any t
 pattern_from before (Bind v n) = bind v (slice_index_or before n (any 0))
 pattern_from before (Build c ps) = build c (patterns_at before ps)
 pattern_from before (Either l r) = either (slice_index_or before l (any 0)) (slice_index_or before r (any 0))
-pattern_from before (Gauge a n) = gauge a.test a.wanted (slice_index_or before n (any 0))
+pattern_from before (Gauge n a) = gauge a.test a.wanted (slice_index_or before n (any 0))
 
 abbrev pub patterns_of : List PatternRow → List Pattern
 patterns_of rows = unfolded pattern_from [] rows

@@ -30,7 +30,8 @@ pub enum PatternRow {
     // the left pattern or else the right one
     Either { left: u16, right: u16 },
     // atoms that give the wanted answer to the test, and that the inner pattern matches
-    Gauge { ask: Ask, inner: u16 },
+    // (fields lie in this order: `inner` beside the tag, so that a row has 24 bytes)
+    Gauge { inner: u16, ask: Ask },
 }
 
 /// A clause: a pattern, a guard if any, and an action.

@@ -30,7 +30,7 @@ pattern_local k (Any t) b xs = refl
 pattern_local k (Bind v n) b xs = ap (bind v) (get_or-take k xs n (any 0) b)
 pattern_local k (Build c ps) b xs = ap (build c) (patterns_local k xs ps b)
 pattern_local k (Either l r) b xs = ap₂ either (get_or-take k xs l (any 0) b.0) (get_or-take k xs r (any 0) b.1)
-pattern_local k (Gauge a n) b xs = ap (gauge a.test a.wanted) (get_or-take k xs n (any 0) b)
+pattern_local k (Gauge n a) b xs = ap (gauge a.test a.wanted) (get_or-take k xs n (any 0) b)
 
 place_local : (k : ℕ) (row : PlaceRow) → row.parent < k → (xs : List Place) → place_from (take k xs) row ≡ place_from xs row
 place_local k row b xs = ap (λ p. below p row.step) (get_or-take k xs row.parent whole b)

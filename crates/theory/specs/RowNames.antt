@@ -24,7 +24,7 @@ PatternBelow k (Any t) = Unit {0}
 PatternBelow k (Bind v n) = n < k
 PatternBelow k (Build c ps) = AllBelow k ps
 PatternBelow k (Either l r) = (l < k) × (r < k)
-PatternBelow k (Gauge a n) = n < k
+PatternBelow k (Gauge n a) = n < k
 
 abbrev pub OtherBelow : ℕ → Option ℕ → Type 0
 OtherBelow k None = Unit {0}
